@@ -1,0 +1,9 @@
+pub mod Upward
+pub mod Numbers
+pub mod Links
+pub mod Checked
+pub mod Spelling
+pub mod Each
+pub mod Climb
+pub mod Placed
+pub mod Judging

@@ -1,0 +1,3 @@
+pub mod Cursor
+pub mod Subtree
+pub mod Texts
