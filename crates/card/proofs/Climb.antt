@@ -141,3 +141,12 @@ module _ (e : Entries) (c : TableCounts) (w : Whole e c) (top : ℕ) (s : Climbs
       by-kind kind.Root r = absurd (not-root card j a (s .place j (omega arith)) (item-is j l ∙ ap (λ x. item-by e (valueOr (node e j .parent) 0) x) r))
       by-kind (kind.Element tag run) r = ap length (kind-way j p (kind.Element tag run) a l q r .0) ∙ sym (one-add (length (above card p)))
       by-kind (kind.Text run) r = ap length (kind-way j p (kind.Text run) a l q r .0) ∙ sym (zero-add (length (above card p)))
+
+  -- the parent in the contents is the one that the link names
+  pub parent-of-link : (j p : ℕ) → 0 < j → j ≤ top → node e j .parent ≡ Some p → parent card j ≡ p
+  parent-of-link j p a l q = by-kind (node e j .kind) refl
+    where
+      by-kind : (k : NodeKind) → node e j .kind ≡ k → parent card j ≡ p
+      by-kind kind.Root r = absurd (not-root card j a (s .place j (omega arith)) (item-is j l ∙ ap (λ x. item-by e (valueOr (node e j .parent) 0) x) r))
+      by-kind (kind.Element tag run) r = ap parent-of (item-is j l ∙ ap (λ x. item-by e (valueOr (node e j .parent) 0) x) r ∙ ap (λ o. item-by e (valueOr o 0) (kind.Element tag run)) q)
+      by-kind (kind.Text run) r = ap parent-of (item-is j l ∙ ap (λ x. item-by e (valueOr (node e j .parent) 0) x) r ∙ ap (λ o. item-by e (valueOr o 0) (kind.Text run)) q)

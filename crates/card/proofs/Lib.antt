@@ -7,3 +7,4 @@ pub mod Each
 pub mod Climb
 pub mod Placed
 pub mod Judging
+pub mod Within

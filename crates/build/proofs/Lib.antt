@@ -1,0 +1,11 @@
+pub mod Laid
+pub mod Holding
+pub mod Added
+pub mod Open
+pub mod Relinked
+pub mod Longer
+pub mod Grown
+pub mod MoreNodes
+pub mod Given
+pub mod MoreAttributes
+pub mod Begun
