@@ -1,6 +1,7 @@
 //! Why a call is refused.
 ghost use mathlib.Core.Path.{_≡_};
 ghost use Rattle.card.specs.Faults.{number-of, place-of};
+use std::fmt;
 
 /// Why a call is refused, with the place that it names.
 #[derive(Clone, Copy)]
@@ -78,5 +79,13 @@ impl Fault {
             | Fault::LengthsFull(count)
             | Fault::ListShort(count) => count,
         }
+    }
+}
+
+pub impl fmt::Display for Fault as FaultDisplay {
+    fn fmt<W: fmt::Write>(&self, f: &mut fmt::Formatter<W>) -> fmt::Result {
+        let number = self.number();
+        let place = self.place();
+        write!(f, "refused {number} {place}")
     }
 }

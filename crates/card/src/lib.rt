@@ -3,6 +3,7 @@ mod fault;
 mod record;
 
 pub use fault::Fault;
+pub use fault::FaultDisplay;
 pub use record::Attribute;
 pub use record::Length;
 pub use record::Marks;

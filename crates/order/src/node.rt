@@ -18,7 +18,6 @@ use card::NodeKind;
 use card::TableCounts;
 use card::Tables;
 use names::EId;
-use names::same_eid;
 
 // Whether two links are the same.
 pub(crate) fn is_same(a: Option<u32>, b: Option<u32>) -> bool
@@ -41,7 +40,7 @@ fn is_svg_element(kind: NodeKind) -> bool
     ensures { λ r. ⌜ r ≡ is-svg kind ⌝ }
 {
     match kind {
-        NodeKind::Element { tag, attributes: _ } => same_eid(tag, EId::Svg),
+        NodeKind::Element { tag, attributes: _ } => tag.is(EId::Svg),
         _ => false,
     }
 }

@@ -33,6 +33,7 @@ use order::check_draft;
 use order::check_tables;
 
 /// A card that is being built: how much of each table it uses, and which element is open.
+#[derive(Drop)]
 pub struct Draft {
     pub(crate) counts: TableCounts,
     pub(crate) open: u32,
@@ -191,10 +192,5 @@ impl Draft {
         }
         let Draft { counts, open: _ } = self;
         Ok(Sealed { counts })
-    }
-
-    /// Lets the draft go; its tables stay the caller's.
-    pub fn discard(self) {
-        let Draft { counts: _, open: _ } = self;
     }
 }

@@ -15,6 +15,7 @@ use order::check_tables;
 use traverse::list_texts;
 
 /// A card that is ready to be read: how much of each table it uses.
+#[derive(Drop)]
 pub struct Sealed {
     pub(crate) counts: TableCounts,
 }
@@ -48,20 +49,15 @@ impl Sealed {
         ensures every_text_element_once { λ r. ⌜ Lists (card-checked (entries (tables .entry)) (now (self .entry) .counts)) (card-texts (contents (entries (tables .entry)) (now (self .entry) .counts))) (now (list .entry)) (now (list .exit)) r ⌝ }
         ensures a_refusal_changes_nothing { λ r. ⌜ refused r (λ _. now (list .exit) ≡ now (list .entry)) ⌝ }
     {
-        let counts = self.counts;
-        check_card(tables, counts)?;
-        list_texts(tables.nodes, counts.nodes, list)
+        check_card(tables, self.counts)?;
+        list_texts(tables.nodes, self.counts.nodes, list)
     }
 
     /// How much of each table the card uses.
     pub fn counts(&self) -> TableCounts
         ensures { λ r. ⌜ r ≡ now (self .entry) .counts ⌝ }
     {
-        self.counts
-    }
-
-    /// Lets the card go; its tables stay the caller's.
-    pub fn discard(self) {
-        let Sealed { counts: _ } = self;
+        let used = self.counts;
+        used
     }
 }

@@ -10,7 +10,6 @@ use card::Fault;
 use card::NodeData;
 use card::NodeKind;
 use names::EId;
-use names::same_eid;
 
 /// Whether a node is a text element.
 fn is_text_element(node: NodeData) -> bool
@@ -18,7 +17,7 @@ fn is_text_element(node: NodeData) -> bool
 {
     match node.kind {
         NodeKind::Root => false,
-        NodeKind::Element { tag, attributes: _ } => same_eid(tag, EId::Text),
+        NodeKind::Element { tag, attributes: _ } => tag.is(EId::Text),
         NodeKind::Text(_) => false,
     }
 }

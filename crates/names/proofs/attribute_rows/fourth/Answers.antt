@@ -1,0 +1,7 @@
+use mathlib.Core.Path.{refl}
+use Rattle.names.specs.Parts.{part}
+use Rattle.names.proofs.attribute_rows.fourth.Needs as need
+
+pub returns : need.returns
+unfolding part
+returns c = refl
