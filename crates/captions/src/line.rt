@@ -162,7 +162,11 @@ fn poke(words: &mut Words<'_>) -> Option<Line> {
 }
 
 // The lengths up to the end of the line.
-fn lengths(words: &mut Words<'_>, heap: Global, most: usize) -> Result<Option<Vec<Length>>, AllocError> {
+fn lengths(
+    words: &mut Words<'_>,
+    heap: Global,
+    most: usize,
+) -> Result<Option<Vec<Length>>, AllocError> {
     let mut read = Vec::new(heap);
     for _ in 0..most {
         if words.ended() {

@@ -62,7 +62,13 @@ fn is_remark(line: &[u8]) -> bool {
 }
 
 // Answers one line, prints the answer and counts it.
-fn run_one(rt: &LibcRuntime, lent: &mut Lent, card: Card, line: &[u8], tally: &mut Tally) -> (Card, Result<(), AnyError>) {
+fn run_one(
+    rt: &LibcRuntime,
+    lent: &mut Lent,
+    card: Card,
+    line: &[u8],
+    tally: &mut Tally,
+) -> (Card, Result<(), AnyError>) {
     match answer_to(rt, lent, card, line) {
         Ok((card, answer)) => {
             tally.count(&answer);

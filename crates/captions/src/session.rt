@@ -181,7 +181,11 @@ impl Lent {
             }
             _ => (0, 0),
         };
-        if k < size { Answer::Poked } else { Answer::Unreadable }
+        if k < size {
+            Answer::Poked
+        } else {
+            Answer::Unreadable
+        }
     }
 
     // A call on a draft.
@@ -234,25 +238,26 @@ impl Lent {
     // A new card takes the place of the old one once it is accepted.
     fn begin(&mut self, card: Card) -> (Card, Answer) {
         match Draft::begin(self.nodes.as_mut_slice()) {
-            Ok(draft) => {
-                (Card::Drafting(draft), Answer::Begun)
-            }
+            Ok(draft) => { (Card::Drafting(draft), Answer::Begun) }
             Err(fault) => (card, Answer::Refused(fault)),
         }
     }
 
     fn admit(&self, card: Card, counts: TableCounts) -> (Card, Answer) {
         match Sealed::admit(self.tables(), counts) {
-            Ok(sealed) => {
-                (Card::Ready(sealed), Answer::Admitted)
-            }
+            Ok(sealed) => { (Card::Ready(sealed), Answer::Admitted) }
             Err(fault) => (card, Answer::Refused(fault)),
         }
     }
 }
 
 // A call on the card as it is; a state that does not admit the call says so.
-fn call(lent: &mut Lent, heap: Global, card: Card, line: Line) -> Result<(Card, Answer), (Card, AllocError)> {
+fn call(
+    lent: &mut Lent,
+    heap: Global,
+    card: Card,
+    line: Line,
+) -> Result<(Card, Answer), (Card, AllocError)> {
     match card {
         Card::Missing => Ok((Card::Missing, Answer::NotNow)),
         Card::Drafting(mut draft) => {
@@ -274,7 +279,12 @@ fn call(lent: &mut Lent, heap: Global, card: Card, line: Line) -> Result<(Card, 
 }
 
 /// Makes the call of a line, and answers what it came to with the card as it is now.
-pub(crate) fn run_line(lent: &mut Lent, heap: Global, card: Card, line: Line) -> Result<(Card, Answer), (Card, AllocError)> {
+pub(crate) fn run_line(
+    lent: &mut Lent,
+    heap: Global,
+    card: Card,
+    line: Line,
+) -> Result<(Card, Answer), (Card, AllocError)> {
     match line {
         Line::Tables(sizes) => match Lent::new(heap, sizes) {
             Ok(tables) => {
@@ -285,9 +295,10 @@ pub(crate) fn run_line(lent: &mut Lent, heap: Global, card: Card, line: Line) ->
         },
         Line::Begin => Ok(lent.begin(card)),
         Line::Admit(counts) => Ok(lent.admit(card, counts)),
-        Line::PokeNode(_, _) | Line::PokeAttribute(_, _) | Line::PokeByte(_, _) | Line::PokeLength(_, _) => {
-            Ok((card, lent.poke(line)))
-        }
+        Line::PokeNode(_, _)
+        | Line::PokeAttribute(_, _)
+        | Line::PokeByte(_, _)
+        | Line::PokeLength(_, _) => { Ok((card, lent.poke(line))) }
         other => call(lent, heap, card, other),
     }
 }

@@ -37,9 +37,9 @@ module _ (e : Entries) (c : TableCounts) (k : ℕ) where
   pub out-by-links : links-hold ≡ false → in-order e c k ≡ false
   out-by-links h =
       out-since (λ n. true≢false (sym (
-        and-from (same-link (node e k .first) (first-child e c k)) _ (link-same (node e k .first) (first-child e c k) (n .first))
-        (and-from (same-link (node e k .last) (last-child e c k)) _ (link-same (node e k .last) (last-child e c k) (n .last))
-        (and-from (same-link (node e k .next) (next-sibling e c k)) true (link-same (node e k .next) (next-sibling e c k) (n .next)) refl))) ∙ h))
+      and-from (same-link (node e k .first) (first-child e c k)) _ (link-same (node e k .first) (first-child e c k) (n .first))
+      (and-from (same-link (node e k .last) (last-child e c k)) _ (link-same (node e k .last) (last-child e c k) (n .last))
+      (and-from (same-link (node e k .next) (next-sibling e c k)) true (link-same (node e k .next) (next-sibling e c k) (n .next)) refl))) ∙ h))
 
   pub out-by-runs : filled e c k (node e k .kind) ≡ false → in-order e c k ≡ false
   out-by-runs h = out-since (λ n. true≢false (sym (n .runs) ∙ h))

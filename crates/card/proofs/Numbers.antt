@@ -46,9 +46,9 @@ module _ (p : ℕ → Bool) where
       ⊎-elim
       (λ t. let q : n ≡ m = let w : Some n ≡ Some m = sym (highest-here n t) ∙ e in cc in (omega arith, (subst (λ j. p j ≡ true) q t, λ k a b. absurd (omega arith))))
       (λ f.
-        let r = highest-some n m (sym (highest-skip n f) ∙ e) in
-        let l = r .0 in
-        (omega arith, (r .1 .0, λ k a b. ⊎-elim (λ u. r .1 .1 k u b) (λ u. subst (λ j. p j ≡ false) (let q : n ≡ k = omega arith in q) f) (cases-lt k n))))
+      let r = highest-some n m (sym (highest-skip n f) ∙ e) in
+      let l = r .0 in
+      (omega arith, (r .1 .0, λ k a b. ⊎-elim (λ u. r .1 .1 k u b) (λ u. subst (λ j. p j ≡ false) (let q : n ≡ k = omega arith in q) f) (cases-lt k n))))
       (cases-bool (p n))
 
   -- one that passes, with none above it that does
@@ -121,6 +121,7 @@ module _ (p : ℕ → Bool) where
           (λ t. let w : Some n ≡ Some m = sym (lowest-here n q t) ∙ e in let u : n ≡ m = cc in (omega arith, (subst (λ j. p j ≡ true) u t, λ k a. lowest-none n q k (omega arith))))
           (λ f. absurd (false≢true (ap isSome (sym (lowest-skip n f ∙ q) ∙ e))))
           (cases-bool (p n))
+
       at-some : (lowest p n ≡ Some m → (m < n) × ((p m ≡ true) × ((k : ℕ) → k < m → p k ≡ false))) → (x : ℕ) × (lowest p n ≡ Some x) → (m < suc n) × ((p m ≡ true) × ((k : ℕ) → k < m → p k ≡ false))
       at-some before s =
           let w : Some (s .0) ≡ Some m = sym (lowest-had n (s .0) (s .1)) ∙ e in

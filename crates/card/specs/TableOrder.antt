@@ -128,15 +128,15 @@ pub record Node-in-order (e : Entries) (c : TableCounts) (k : ℕ) : Type 0 wher
 unfoldable pub in-order : Entries → TableCounts → ℕ → Bool
 in-order e c k =
     holds (
-      ltb k (c .nodes)
-      ∷ parented e k
-      ∷ in-place (contents e c) k
-      ∷ leb (length (above (contents e c) k)) 64
-      ∷ same-link (node e k .first) (first-child e c k)
-      ∷ same-link (node e k .last) (last-child e c k)
-      ∷ same-link (node e k .next) (next-sibling e c k)
-      ∷ filled e c k (node e k .kind)
-      ∷ [])
+    ltb k (c .nodes)
+    ∷ parented e k
+    ∷ in-place (contents e c) k
+    ∷ leb (length (above (contents e c) k)) 64
+    ∷ same-link (node e k .first) (first-child e c k)
+    ∷ same-link (node e k .last) (last-child e c k)
+    ∷ same-link (node e k .next) (next-sibling e c k)
+    ∷ filled e c k (node e k .kind)
+    ∷ [])
 
 -- the lowest node that is out of order; nodes 0 and 1 may not be missing
 unfoldable pub lowest-out-of-order : Entries → TableCounts → Option ℕ

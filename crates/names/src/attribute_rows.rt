@@ -66,7 +66,7 @@ const FIRST: [(AId, &str); 53] = [
 ];
 
 /// The rows of the first part.
-pub fn first() -> &'static [(AId, &'static str)]
+pub(crate) fn first() -> &'static [(AId, &'static str)]
     ensures { λ r. ⌜ shown (now r) ≡ spelt spelling (part 0) ⌝ }
 {
     &FIRST
@@ -133,7 +133,7 @@ const SECOND: [(AId, &str); 53] = [
 ];
 
 /// The rows of the second part.
-pub fn second() -> &'static [(AId, &'static str)]
+pub(crate) fn second() -> &'static [(AId, &'static str)]
     ensures { λ r. ⌜ shown (now r) ≡ spelt spelling (part 1) ⌝ }
 {
     &SECOND
@@ -197,7 +197,7 @@ const THIRD: [(AId, &str); 53] = [
 ];
 
 /// The rows of the third part.
-pub fn third() -> &'static [(AId, &'static str)]
+pub(crate) fn third() -> &'static [(AId, &'static str)]
     ensures { λ r. ⌜ shown (now r) ≡ spelt spelling (part 2) ⌝ }
 {
     &THIRD
@@ -260,7 +260,7 @@ const FOURTH: [(AId, &str); 52] = [
 ];
 
 /// The rows of the fourth part.
-pub fn fourth() -> &'static [(AId, &'static str)]
+pub(crate) fn fourth() -> &'static [(AId, &'static str)]
     ensures { λ r. ⌜ shown (now r) ≡ spelt spelling (part 3) ⌝ }
 {
     &FOURTH

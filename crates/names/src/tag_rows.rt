@@ -62,7 +62,7 @@ const ROWS: [(EId, &str); 53] = [
 ];
 
 /// Each tag with its spelling, in the order of the enum.
-pub fn rows() -> &'static [(EId, &'static str)]
+pub(crate) fn rows() -> &'static [(EId, &'static str)]
     ensures { λ r. ⌜ shown (now r) ≡ spelt spelling all ⌝ }
 {
     &ROWS

@@ -84,11 +84,11 @@ module _ (e : Entries) (n m : ℕ) (last next : List (Option ℕ)) (h : Expected
           ⊎-elim
           (λ a. ap (λ x. getD (with-next x next m) k None) (h .lasts p near ∙ a) ∙ h .orphans k l z)
           (λ s.
-            ap (λ x. getD (with-next x next m) k None) (h .lasts p near ∙ s .1)
-            ∙ getD-set-other next (s .0) k (Some m) None (λ y.
-                let w : None ≡ Some p = sym z ∙ ap (λ j. node e j .parent) y ∙ child-is e p (s .0) (highest-some (child e p) m (s .0) (s .1) .1 .0) in
-                let bad : _≡_ {A = ℕ} 0 1 = cc in omega arith)
-            ∙ h .orphans k l z)
+          ap (λ x. getD (with-next x next m) k None) (h .lasts p near ∙ s .1)
+          ∙ getD-set-other next (s .0) k (Some m) None (λ y.
+          let w : None ≡ Some p = sym z ∙ ap (λ j. node e j .parent) y ∙ child-is e p (s .0) (highest-some (child e p) m (s .0) (s .1) .1 .0) in
+          let bad : _≡_ {A = ℕ} 0 1 = cc in omega arith)
+          ∙ h .orphans k l z)
           (option-cases (highest (child e p) m))
 
       -- a new child of one of the nodes

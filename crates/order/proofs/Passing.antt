@@ -54,9 +54,9 @@ depths-more e c k d depths l h q =
     record {
       long = length-set depths k d ∙ h .long;
       each = λ j u. ⊎-elim
-      (λ b. getD-set-other depths k j d 0 (λ z. omega arith) ∙ h .each j b)
-      (λ b. let z : k ≡ j = omega arith in subst (λ i. getD (set depths k d) i 0 ≡ length (above (contents e c) i)) z (getD-set-same depths k d 0 (let n = h .long in omega arith) ∙ q))
-      (cases-lt j k);
+          (λ b. getD-set-other depths k j d 0 (λ z. omega arith) ∙ h .each j b)
+          (λ b. let z : k ≡ j = omega arith in subst (λ i. getD (set depths k d) i 0 ≡ length (above (contents e c) i)) z (getD-set-same depths k d 0 (let n = h .long in omega arith) ∙ q))
+          (cases-lt j k);
     }
 
 -- one more node in order

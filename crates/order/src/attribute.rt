@@ -35,7 +35,10 @@ fn is_attribute_in_order(tables: Tables<'_>, counts: TableCounts, attribute: Att
     if !is_utf8(&tables.bytes[value.start as usize..value.end as usize]) {
         return false;
     }
-    keeps_rules(&tables.lengths[lengths.start as usize..lengths.end as usize], marks)
+    keeps_rules(
+        &tables.lengths[lengths.start as usize..lengths.end as usize],
+        marks,
+    )
 }
 
 // Whether each attribute of a run is in order.

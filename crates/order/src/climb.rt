@@ -10,16 +10,16 @@ use card::NodeKind;
 use card::TableCounts;
 use card::Tables;
 
-/// Whether a node is an element.
-pub fn is_element(kind: NodeKind) -> bool
+// Whether a node is an element.
+pub(crate) fn is_element(kind: NodeKind) -> bool
     ensures { λ r. ⌜ r ≡ is-element kind ⌝ }
 {
     matches!(kind, NodeKind::Element { .. })
 }
 
-/// Whether an element is a node or lies above it, where the nodes so far are in order.
+// Whether an element is a node or lies above it, where the nodes so far are in order.
 // Parents have lower numbers, so the way up ends as soon as it is past the number.
-pub fn lies_above(tables: Tables<'_>, counts: TableCounts, from: u32, sought: u32) -> bool
+pub(crate) fn lies_above(tables: Tables<'_>, counts: TableCounts, from: u32, sought: u32) -> bool
     requires whole { ⌜ Whole (entries tables) counts ⌝ }
     requires sound { ⌜ Sound-below (entries tables) counts (from + 1) ⌝ }
     ensures { λ r. ⌜ r ≡ member sought (above (contents (entries (tables .entry)) counts) from) ⌝ }

@@ -11,8 +11,5 @@ pub use check::check_card;
 pub use check::check_draft;
 pub use check::check_tables;
 pub use climb::depth;
-pub use climb::is_element;
-pub use climb::lies_above;
 pub use value::check_spelling;
-pub use value::is_utf8;
 pub use value::keeps_rules;

@@ -17,7 +17,13 @@ pub(crate) fn no_links() -> [Option<u32>; 4096]
 
 // Node `j` is one more child of its parent, if that is one of the nodes: the next sibling of the child that came before
 // it, and the last one now.
-fn note_child(last: &mut [Option<u32>], next: &mut [Option<u32>], count: usize, parent: Option<u32>, j: u32)
+fn note_child(
+    last: &mut [Option<u32>],
+    next: &mut [Option<u32>],
+    count: usize,
+    parent: Option<u32>,
+    j: u32,
+)
     requires { ⌜ count ≤ length (now last) ⌝ ∗ ⌜ ((p q : ℕ) → p < count → getD (now last) p nothing ≡ just q → q < length (now next)) ⌝ }
     ensures last { λ _. ⌜ now (last .exit) ≡ last-noted (now (last .entry)) count parent j ⌝ }
     ensures next { λ _. ⌜ now (next .exit) ≡ next-noted (now (last .entry)) (now (next .entry)) count parent j ⌝ }
@@ -36,7 +42,12 @@ fn note_child(last: &mut [Option<u32>], next: &mut [Option<u32>], count: usize, 
 }
 
 // The links that every node ought to have.
-pub(crate) fn find_links(tables: Tables<'_>, counts: TableCounts, last: &mut [Option<u32>], next: &mut [Option<u32>])
+pub(crate) fn find_links(
+    tables: Tables<'_>,
+    counts: TableCounts,
+    last: &mut [Option<u32>],
+    next: &mut [Option<u32>],
+)
     requires whole { ⌜ Whole (entries tables) counts ⌝ }
     requires no_last { ⌜ Unlinked (now last) ⌝ }
     requires no_next { ⌜ Unlinked (now next) ⌝ }

@@ -97,7 +97,13 @@ pub(crate) fn is_linked(
 
 // Whether an element's attributes, or a text's bytes, are in order. `ended` is where the attributes of the element before
 // end, and `closes` says that there is no element after.
-pub(crate) fn is_filled(tables: Tables<'_>, counts: TableCounts, k: usize, ended: u32, closes: bool) -> bool
+pub(crate) fn is_filled(
+    tables: Tables<'_>,
+    counts: TableCounts,
+    k: usize,
+    ended: u32,
+    closes: bool,
+) -> bool
     requires whole { ⌜ Whole (entries tables) counts ⌝ }
     requires present { ⌜ k < counts .nodes ⌝ }
     requires ended { ⌜ ended ≡ attributes-end (entries tables) k ⌝ }

@@ -60,7 +60,11 @@ fn depth_from(tables: Tables<'_>, counts: TableCounts, k: usize, depths: &[u8]) 
         return 0;
     };
     let above = depths[parent as usize];
-    if is_element(node.kind) { above + 1 } else { above }
+    if is_element(node.kind) {
+        above + 1
+    } else {
+        above
+    }
 }
 
 // The depth of node k if it is in order.

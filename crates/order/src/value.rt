@@ -10,8 +10,8 @@ use card::Marks;
 use names::LengthUnit;
 use std::str::from_utf8;
 
-/// Whether bytes are UTF-8.
-pub fn is_utf8(bytes: &[u8]) -> bool
+// Whether bytes are UTF-8.
+pub(crate) fn is_utf8(bytes: &[u8]) -> bool
     ensures { λ r. ⌜ r ≡ is-utf8 (now (bytes .entry)) ⌝ }
 {
     match from_utf8(bytes) {

@@ -46,7 +46,12 @@ pub(crate) fn check_opening(tables: Tables<'_>, counts: TableCounts, open: u32) 
 }
 
 // Refuses to write a text with no node entry for it, that is not UTF-8, or that lacks space.
-pub(crate) fn check_writing(tables: Tables<'_>, counts: TableCounts, open: u32, text: &[u8]) -> Result<(), Fault>
+pub(crate) fn check_writing(
+    tables: Tables<'_>,
+    counts: TableCounts,
+    open: u32,
+    text: &[u8],
+) -> Result<(), Fault>
     requires { ⌜ Sound-draft (entries tables) counts «open» ⌝ }
     ensures answer { λ r. ⌜ r ≡ writing-checked (draft counts «open») (entries (tables .entry)) (now (text .entry)) ⌝ }
     ensures fits { λ r. ⌜ made r (λ _. (counts .nodes < length (entries (tables .entry) .nodes)) × (counts .nodes < 4096) × (is-utf8 (now (text .entry)) ≡ true) × (counts .bytes + length (now (text .entry)) ≤ length (entries (tables .entry) .bytes)) × (counts .bytes + length (now (text .entry)) ≤ 65536)) ⌝ }
@@ -78,7 +83,12 @@ pub(crate) fn check_value(counts: TableCounts, open: u32, value: Value<'_>) -> R
 }
 
 // Refuses an attribute for which a table lacks space.
-pub(crate) fn check_space(tables: Tables<'_>, counts: TableCounts, open: u32, value: Value<'_>) -> Result<(), Fault>
+pub(crate) fn check_space(
+    tables: Tables<'_>,
+    counts: TableCounts,
+    open: u32,
+    value: Value<'_>,
+) -> Result<(), Fault>
     requires { ⌜ Sound-draft (entries tables) counts «open» ⌝ }
     ensures answer { λ r. ⌜ r ≡ space-checked (draft counts «open») (entries (tables .entry)) (attr-given blank-name (value .entry)) ⌝ }
     ensures fits { λ r. ⌜ made r (λ _. Space (entries (tables .entry)) counts (attr-given blank-name (value .entry))) ⌝ }

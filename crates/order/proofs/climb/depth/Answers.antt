@@ -24,22 +24,22 @@ loop-at-again c =
     let here : c .loop-at .at ≤ c .args .from = omega arith in
     let less = lower (entries (c .args .tables)) (c .args .counts) (c .pre .whole) (c .args .from) (c .pre .sound) (c .loop-at .at) (c .in-Some .parent) (c .loop-at-test .taken) here (c .in-Some .is) in
     elim (c .if-is-element .came) [
-      then-is-element w ↦
-        let more = w .elements-is in (
-          omega arith,
-          λ counts h s.
-              let so = c .loop-at .inv .1 counts h s in
-              let d = deeper-by (entries (c .args .tables)) counts h (c .args .from) s true (c .loop-at .at) (c .in-Some .parent) (c .loop-at-test .taken) here (c .in-Some .is) (sym (c .is-element .ensures) ∙ w .if-is-element .taken) in
-              omega arith,
-        )
-    | else-is-element w ↦
-        let more = w .elements-is in (
-          omega arith,
-          λ counts h s.
-              let so = c .loop-at .inv .1 counts h s in
-              let d = deeper-by (entries (c .args .tables)) counts h (c .args .from) s false (c .loop-at .at) (c .in-Some .parent) (c .loop-at-test .taken) here (c .in-Some .is) (sym (c .is-element .ensures) ∙ w .if-is-element .left) in
-              omega arith,
-        )
+      | then-is-element w ↦
+          let more = w .elements-is in (
+            omega arith,
+            λ counts h s.
+                let so = c .loop-at .inv .1 counts h s in
+                let d = deeper-by (entries (c .args .tables)) counts h (c .args .from) s true (c .loop-at .at) (c .in-Some .parent) (c .loop-at-test .taken) here (c .in-Some .is) (sym (c .is-element .ensures) ∙ w .if-is-element .taken) in
+                omega arith,
+          )
+      | else-is-element w ↦
+          let more = w .elements-is in (
+            omega arith,
+            λ counts h s.
+                let so = c .loop-at .inv .1 counts h s in
+                let d = deeper-by (entries (c .args .tables)) counts h (c .args .from) s false (c .loop-at .at) (c .in-Some .parent) (c .loop-at-test .taken) here (c .in-Some .is) (sym (c .is-element .ensures) ∙ w .if-is-element .left) in
+                omega arith,
+          )
     ]
 
 pub returns : need.returns

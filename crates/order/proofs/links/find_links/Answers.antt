@@ -1,5 +1,4 @@
 use mathlib.Core.Path.{_≡_, refl, ap, sym, subst, _∙_}
-
 use native.Mathlib.Omega.{arith}
 use Rattle.card.specs.Tables.{entries, node}
 use Rattle.card.specs.TableOrder.{child}

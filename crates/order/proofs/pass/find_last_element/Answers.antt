@@ -15,10 +15,10 @@ loop-k-holds c = sym (highest-nowhere (λ k. is-element (node (entries (c .args 
 pub loop-k-again : need.loop-k-again
 loop-k-again c =
     elim (c .if-is-element .came) [
-      then-is-element w ↦
-        w .last-is ∙ sym (ap (highest (λ k. is-element (node (entries (c .args .tables)) k .kind))) (add-one (c .loop-k .k)) ∙ highest-here (λ k. is-element (node (entries (c .args .tables)) k .kind)) (c .loop-k .k) (sym (c .is-element .ensures) ∙ w .if-is-element .taken))
-    | else-is-element w ↦
-        w .last-is ∙ c .loop-k .inv ∙ sym (ap (highest (λ k. is-element (node (entries (c .args .tables)) k .kind))) (add-one (c .loop-k .k)) ∙ highest-skip (λ k. is-element (node (entries (c .args .tables)) k .kind)) (c .loop-k .k) (sym (c .is-element .ensures) ∙ w .if-is-element .left))
+      | then-is-element w ↦
+          w .last-is ∙ sym (ap (highest (λ k. is-element (node (entries (c .args .tables)) k .kind))) (add-one (c .loop-k .k)) ∙ highest-here (λ k. is-element (node (entries (c .args .tables)) k .kind)) (c .loop-k .k) (sym (c .is-element .ensures) ∙ w .if-is-element .taken))
+      | else-is-element w ↦
+          w .last-is ∙ c .loop-k .inv ∙ sym (ap (highest (λ k. is-element (node (entries (c .args .tables)) k .kind))) (add-one (c .loop-k .k)) ∙ highest-skip (λ k. is-element (node (entries (c .args .tables)) k .kind)) (c .loop-k .k) (sym (c .is-element .ensures) ∙ w .if-is-element .left))
     ]
 
 pub returns : need.returns

@@ -32,7 +32,7 @@ is-linked-requires c κs =
       present = c .pre .present;
       last = c .pre .links .lasts (c .args .k) (c .pre .present);
       next = next-found (entries (c .args .tables)) (c .args .counts .nodes) (c .args .k) (c .args .last .now) (c .args .next .now) (c .pre .links) (c .pre .present)
-      (λ p q. let less = lower (entries (c .args .tables)) (c .args .counts) (c .pre .whole) (c .args .k) (c .pre .sound) (c .pre .present) (place .1) (place .0) (c .args .depths .now) (c .pre .depths) p q in let here = c .pre .present in omega arith);
+          (λ p q. let less = lower (entries (c .args .tables)) (c .args .counts) (c .pre .whole) (c .args .k) (c .pre .sound) (c .pre .present) (place .1) (place .0) (c .args .depths .now) (c .pre .depths) p q in let here = c .pre .present in omega arith);
     }
 
 pub returns-then-not-is-linked : need.returns-then-not-is-linked

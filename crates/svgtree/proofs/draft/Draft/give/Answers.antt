@@ -23,9 +23,9 @@ returns c =
       answer-and-tables = search needs;
       a-refusal-changes-nothing = tt;
       one-attribute-more =
-        let sound = c .in-Continue-check-draft .ensures tt .sound in
-        let value = c .in-Continue-check-value .ensures tt .fits in
-        let space = c .in-Continue-check-space .ensures tt .fits in
-        kept-at _ _ _ _ _ _ _ _ _ _ _ _ (c .end-attributes .ensures) (ap (λ a. set (c .args .attributes .now) (c .args .self .now .counts .attributes) a) (c .entry-of .ensures)) (c .lay .ensures) (c .lay-2 .ensures) (c .counts-with-self .ensures)
-        (attribute-more (lent (c .args .nodes .now) (c .args .attributes .now) (c .args .bytes .now) (c .args .lengths .now)) (c .args .self .now .counts) (sound .whole) (sound .order) (c .args .self .now .open) (sound .inside) (value .0) (attr-given (c .args .name) (c .args .value)) (value .1) (value .2) (space .attributes) (space .attributes-few) (space .bytes) (space .bytes-few) (space .lengths) (space .lengths-few));
+          let sound = c .in-Continue-check-draft .ensures tt .sound in
+          let value = c .in-Continue-check-value .ensures tt .fits in
+          let space = c .in-Continue-check-space .ensures tt .fits in
+          kept-at _ _ _ _ _ _ _ _ _ _ _ _ (c .end-attributes .ensures) (ap (λ a. set (c .args .attributes .now) (c .args .self .now .counts .attributes) a) (c .entry-of .ensures)) (c .lay .ensures) (c .lay-2 .ensures) (c .counts-with-self .ensures)
+          (attribute-more (lent (c .args .nodes .now) (c .args .attributes .now) (c .args .bytes .now) (c .args .lengths .now)) (c .args .self .now .counts) (sound .whole) (sound .order) (c .args .self .now .open) (sound .inside) (value .0) (attr-given (c .args .name) (c .args .value)) (value .1) (value .2) (space .attributes) (space .attributes-few) (space .bytes) (space .bytes-few) (space .lengths) (space .lengths-few));
     }

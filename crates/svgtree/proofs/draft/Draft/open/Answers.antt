@@ -19,7 +19,7 @@ returns c =
       answer-and-tables = search needs;
       a-refusal-changes-nothing = tt;
       one-element-more =
-        let sound = c .in-Continue-check-draft .ensures tt .sound in
-        let fits = c .in-Continue-check-opening .ensures tt .fits in
-        kept-at _ _ _ _ _ _ _ _ _ _ _ _ (c .add-node .ensures) refl refl refl refl (element-more (lent (c .args .nodes .now) (c .args .attributes .now) (c .args .bytes .now) (c .args .lengths .now)) (c .args .self .now .counts) (sound .whole) (sound .order) (c .args .self .now .open) (sound .inside) (fits .0) (fits .1) (c .args .tag) (fits .2));
+          let sound = c .in-Continue-check-draft .ensures tt .sound in
+          let fits = c .in-Continue-check-opening .ensures tt .fits in
+          kept-at _ _ _ _ _ _ _ _ _ _ _ _ (c .add-node .ensures) refl refl refl refl (element-more (lent (c .args .nodes .now) (c .args .attributes .now) (c .args .bytes .now) (c .args .lengths .now)) (c .args .self .now .counts) (sound .whole) (sound .order) (c .args .self .now .open) (sound .inside) (fits .0) (fits .1) (c .args .tag) (fits .2));
     }

@@ -19,7 +19,7 @@ returns c =
       answer-and-tables = search needs;
       a-refusal-changes-nothing = tt;
       one-text-more =
-        let sound = c .in-Continue-check-draft .ensures tt .sound in
-        let fits = c .in-Continue-check-writing .ensures tt .fits in
-        kept-at _ _ _ _ _ _ _ _ _ _ _ _ (c .add-node .ensures) refl (c .lay .ensures) refl refl (text-more (lent (c .args .nodes .now) (c .args .attributes .now) (c .args .bytes .now) (c .args .lengths .now)) (c .args .self .now .counts) (sound .whole) (sound .order) (c .args .self .now .open) (sound .inside) (fits .0) (fits .1) (c .args .text .now) (fits .2) (fits .3) (fits .4));
+          let sound = c .in-Continue-check-draft .ensures tt .sound in
+          let fits = c .in-Continue-check-writing .ensures tt .fits in
+          kept-at _ _ _ _ _ _ _ _ _ _ _ _ (c .add-node .ensures) refl (c .lay .ensures) refl refl (text-more (lent (c .args .nodes .now) (c .args .attributes .now) (c .args .bytes .now) (c .args .lengths .now)) (c .args .self .now .counts) (sound .whole) (sound .order) (c .args .self .now .open) (sound .inside) (fits .0) (fits .1) (c .args .text .now) (fits .2) (fits .3) (fits .4));
     }

@@ -13,11 +13,11 @@ returns c =
       answer = search needs;
       the-contents-stay = refl;
       a-card-in-order-stays-in-order = λ o.
-        let two = o .two in
-        record {
-          contents = refl;
-          order = o;
-          inside = svg-above (contents (entries (c .args .tables)) (c .args .self .counts)) (c .args .self .counts .nodes - 1) (λ j l. o .each j (omega arith) .place) (c .args .self .counts .nodes - 1) (omega arith) (omega arith);
-          whole = c .in-rest .ensures tt .whole;
-        };
+          let two = o .two in
+          record {
+            contents = refl;
+            order = o;
+            inside = svg-above (contents (entries (c .args .tables)) (c .args .self .counts)) (c .args .self .counts .nodes - 1) (λ j l. o .each j (omega arith) .place) (c .args .self .counts .nodes - 1) (omega arith) (omega arith);
+            whole = c .in-rest .ensures tt .whole;
+          };
     }
