@@ -6,7 +6,7 @@ use std::fmt;
 /// Why a call is refused, with the place that it names.
 #[derive(Clone, Copy)]
 pub enum Fault {
-    /// A table is shorter than its count, or the count is above the table's limit: the table, 0 to 3.
+    /// A count asks for more than its table has, or than the limit allows: the table, 0 to 3.
     TableShort(u8),
     /// There are fewer than two node entries to begin in.
     NoRoomToBegin,

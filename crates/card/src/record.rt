@@ -33,7 +33,7 @@ pub struct Attribute {
     pub marks: Marks,
 }
 
-/// What a node is: the root, an element with a run of attributes, or a text with a run of bytes.
+/// What a node is: the root, an element (its tag and where its attributes stand), or a text (where its bytes stand).
 #[derive(Clone, Copy)]
 pub enum NodeKind {
     Root,

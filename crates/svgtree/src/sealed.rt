@@ -21,7 +21,7 @@ pub struct Sealed {
 }
 
 impl Sealed {
-    /// Makes a sealed card of ready tables and counts.
+    /// Takes tables that are filled already, with their counts, as a sealed card.
     pub fn admit(tables: Tables<'_>, counts: TableCounts) -> Result<Sealed, Fault>
         ensures answer { λ r. ⌜ r ≡ admitted counts (card-checked (entries (tables .entry)) counts) ⌝ }
         ensures an_admitted_card_is_in_order { λ r. ⌜ made r (λ s. Ready (entries (tables .entry)) s (contents (entries (tables .entry)) counts)) ⌝ }

@@ -103,7 +103,7 @@ module _ (e : Entries) (c : TableCounts) (o : Tables-in-order e c) (start : ℕ)
   from-last : start < c .nodes → led e start (Close start) ≡ None
   from-last l = at-close start l ∙ cond-true (eqb start start) None (outward (node e start .next) (node e start .parent)) (eq-eqb start start refl)
 
-  -- an opening edge leads to the first child's, or to its closing edge
+  -- what follows a node's opening edge: its first child's, or where it has none its own closing edge
   first-edge : (n k : ℕ) (after : Option Edge) → k < c .nodes → c .nodes ≤ suc n + k → led e start (Open k) ≡ head-or (closed n (contents e c) k (children (contents e c) k)) after
   first-edge n k after l b = let q = card-length e c o in from-open k l ∙ ⊎-elim (childless q) (with-child q) (kept-first (lies-in (contents e c) k) 0 (length (contents e c)))
     where
