@@ -9,6 +9,10 @@ ghost use lib.ListN.{length};
 use answer::AnswerDisplay;
 use answer::Tally;
 use answer::TallyDisplay;
+use card::MAX_ATTRIBUTES;
+use card::MAX_BYTES;
+use card::MAX_LENGTHS;
+use card::MAX_NODES;
 use card::TableCounts;
 use line::read_line;
 use session::Answer;
@@ -21,10 +25,10 @@ use std::io::Read;
 
 // Largest tables, for a script that lends none of its own.
 const LARGEST: TableCounts = TableCounts {
-    nodes: 4096,
-    attributes: 16384,
-    bytes: 65536,
-    lengths: 16384,
+    nodes: MAX_NODES,
+    attributes: MAX_ATTRIBUTES,
+    bytes: MAX_BYTES,
+    lengths: MAX_LENGTHS,
 };
 
 // Makes the call of one line.

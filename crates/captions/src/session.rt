@@ -3,6 +3,10 @@ use crate::line::Line;
 use card::Attribute;
 use card::Fault;
 use card::Length;
+use card::MAX_ATTRIBUTES;
+use card::MAX_BYTES;
+use card::MAX_LENGTHS;
+use card::MAX_NODES;
 use card::Marks;
 use card::NodeData;
 use card::NodeKind;
@@ -90,10 +94,10 @@ impl Lent {
             unit: LengthUnit::None,
         };
         Ok(Lent {
-            nodes: filled(heap, node, sizes.nodes.min(4096))?,
-            attributes: filled(heap, attribute, sizes.attributes.min(16384))?,
-            bytes: filled(heap, 0, sizes.bytes.min(65536))?,
-            lengths: filled(heap, length, sizes.lengths.min(16384))?,
+            nodes: filled(heap, node, sizes.nodes.min(MAX_NODES))?,
+            attributes: filled(heap, attribute, sizes.attributes.min(MAX_ATTRIBUTES))?,
+            bytes: filled(heap, 0, sizes.bytes.min(MAX_BYTES))?,
+            lengths: filled(heap, length, sizes.lengths.min(MAX_LENGTHS))?,
             sizes,
         })
     }
@@ -224,7 +228,7 @@ impl Lent {
     }
 
     fn texts(&self, heap: Global, card: &Sealed, room: usize) -> Result<Answer, AllocError> {
-        let mut list = filled(heap, 0u32, room.min(4096))?;
+        let mut list = filled(heap, 0u32, room.min(MAX_NODES))?;
         match card.texts(self.tables(), list.as_mut_slice()) {
             Ok(count) => {
                 list.truncate(count);

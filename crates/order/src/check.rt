@@ -7,6 +7,10 @@ ghost use Rattle.order.specs.Checks.{table-checked, tables-checked, card-check
 use crate::climb::lies_above;
 use crate::pass::find_out_of_order;
 use card::Fault;
+use card::MAX_ATTRIBUTES;
+use card::MAX_BYTES;
+use card::MAX_LENGTHS;
+use card::MAX_NODES;
 use card::TableCounts;
 use card::Tables;
 
@@ -26,10 +30,10 @@ pub fn check_tables(tables: Tables<'_>, counts: TableCounts) -> Result<(), Fault
     ensures the_first_table_that_fails { λ r. ⌜ r ≡ tables-checked (entries (tables .entry)) counts ⌝ }
     ensures whole { λ r. ⌜ made r (λ _. Whole (entries (tables .entry)) counts) ⌝ }
 {
-    check_table(0, tables.nodes.len(), counts.nodes, 4096)?;
-    check_table(1, tables.attributes.len(), counts.attributes, 16384)?;
-    check_table(2, tables.bytes.len(), counts.bytes, 65536)?;
-    check_table(3, tables.lengths.len(), counts.lengths, 16384)?;
+    check_table(0, tables.nodes.len(), counts.nodes, MAX_NODES)?;
+    check_table(1, tables.attributes.len(), counts.attributes, MAX_ATTRIBUTES)?;
+    check_table(2, tables.bytes.len(), counts.bytes, MAX_BYTES)?;
+    check_table(3, tables.lengths.len(), counts.lengths, MAX_LENGTHS)?;
     Ok(())
 }
 

@@ -17,6 +17,7 @@ use crate::node::is_filled;
 use crate::node::is_linked;
 use crate::node::is_placed;
 use crate::node::is_same;
+use card::MAX_DEPTH;
 use card::NodeKind;
 use card::TableCounts;
 use card::Tables;
@@ -92,7 +93,7 @@ fn judge(
         return None;
     }
     let depth = depth_from(tables, counts, k, depths);
-    if depth > 64 {
+    if depth as usize > MAX_DEPTH {
         return None;
     }
     if !is_linked(tables, counts, k, last[k], next[k]) {

@@ -13,6 +13,11 @@ ghost use Rattle.order.specs.Checks.{Sound-draft};
 ghost use Rattle.svgtree.specs.Calls.{draft, lacks, opening-checked, writing-checked, attr-given, value-checked, space-checked, Space};
 use card::Attribute;
 use card::Fault;
+use card::MAX_ATTRIBUTES;
+use card::MAX_BYTES;
+use card::MAX_DEPTH;
+use card::MAX_LENGTHS;
+use card::MAX_NODES;
 use card::Run;
 use card::TableCounts;
 use card::Tables;
@@ -36,10 +41,10 @@ pub(crate) fn check_opening(tables: Tables<'_>, counts: TableCounts, open: u32) 
     ensures answer { λ r. ⌜ r ≡ opening-checked (draft counts «open») (entries (tables .entry)) ⌝ }
     ensures fits { λ r. ⌜ made r (λ _. (counts .nodes < length (entries (tables .entry) .nodes)) × (counts .nodes < 4096) × (length (above (contents (entries (tables .entry)) counts) «open») < 64)) ⌝ }
 {
-    if depth(tables, counts, open) >= 64 {
+    if depth(tables, counts, open) >= MAX_DEPTH {
         return Err(Fault::TooDeep(open));
     }
-    if lacks_room(tables.nodes.len(), 4096, counts.nodes + 1) {
+    if lacks_room(tables.nodes.len(), MAX_NODES, counts.nodes + 1) {
         return Err(Fault::NoNodeEntry(open));
     }
     Ok(())
@@ -56,12 +61,12 @@ pub(crate) fn check_writing(
     ensures answer { λ r. ⌜ r ≡ writing-checked (draft counts «open») (entries (tables .entry)) (now (text .entry)) ⌝ }
     ensures fits { λ r. ⌜ made r (λ _. (counts .nodes < length (entries (tables .entry) .nodes)) × (counts .nodes < 4096) × (is-utf8 (now (text .entry)) ≡ true) × (counts .bytes + length (now (text .entry)) ≤ length (entries (tables .entry) .bytes)) × (counts .bytes + length (now (text .entry)) ≤ 65536)) ⌝ }
 {
-    if lacks_room(tables.nodes.len(), 4096, counts.nodes + 1) {
+    if lacks_room(tables.nodes.len(), MAX_NODES, counts.nodes + 1) {
         return Err(Fault::NoNodeEntry(open));
     }
     check_spelling(text)?;
     let needed = counts.bytes + text.len();
-    if lacks_room(tables.bytes.len(), 65536, needed) {
+    if lacks_room(tables.bytes.len(), MAX_BYTES, needed) {
         return Err(Fault::BytesFull(needed));
     }
     Ok(())
@@ -94,15 +99,15 @@ pub(crate) fn check_space(
     ensures fits { λ r. ⌜ made r (λ _. Space (entries (tables .entry)) counts (attr-given blank-name (value .entry))) ⌝ }
 {
     let needed = counts.attributes + 1;
-    if lacks_room(tables.attributes.len(), 16384, needed) {
+    if lacks_room(tables.attributes.len(), MAX_ATTRIBUTES, needed) {
         return Err(Fault::AttributesFull(needed));
     }
     let needed = counts.bytes + value.bytes.len();
-    if lacks_room(tables.bytes.len(), 65536, needed) {
+    if lacks_room(tables.bytes.len(), MAX_BYTES, needed) {
         return Err(Fault::BytesFull(needed));
     }
     let needed = counts.lengths + value.lengths.len();
-    if lacks_room(tables.lengths.len(), 16384, needed) {
+    if lacks_room(tables.lengths.len(), MAX_LENGTHS, needed) {
         return Err(Fault::LengthsFull(needed));
     }
     Ok(())

@@ -21,8 +21,8 @@ depth-from-depth-requires c κs =
     let place = and-parts (parented (entries (c .args .tables)) (c .args .k)) (in-place (contents (entries (c .args .tables)) (c .args .counts)) (c .args .k)) (sym (c .if-not-is-placed .ensures tt)) in
     record { whole = c .pre .whole; sound = c .pre .sound; present = c .pre .present; placed = place .1; parented = place .0; depths = c .pre .depths }
 
-pub returns-then-depth-gt64 : need.returns-then-depth-gt64
-returns-then-depth-gt64 c = out-by-depth (entries (c .args .tables)) (c .args .counts) (c .args .k) (let d = c .depth-from-depth .ensures in omega arith)
+pub returns-then-depth-gt-MAX-DEPTH : need.returns-then-depth-gt-MAX-DEPTH
+returns-then-depth-gt-MAX-DEPTH c = out-by-depth (entries (c .args .tables)) (c .args .counts) (c .args .k) (let d = c .depth-from-depth .ensures in omega arith)
 
 pub is-linked-requires : need.is-linked-requires
 is-linked-requires c κs =
