@@ -5,9 +5,13 @@ use names::LengthUnit;
 
 /// The most entries that a card may use of each table, and the most elements that may lie from a node upward.
 pub const MAX_NODES: usize = 4096;
+
 pub const MAX_ATTRIBUTES: usize = 16384;
+
 pub const MAX_BYTES: usize = 65536;
+
 pub const MAX_LENGTHS: usize = 16384;
+
 pub const MAX_DEPTH: usize = 64;
 
 /// Entries of a table, from `start` up to `end`.

@@ -31,7 +31,12 @@ pub fn check_tables(tables: Tables<'_>, counts: TableCounts) -> Result<(), Fault
     ensures whole { λ r. ⌜ made r (λ _. Whole (entries (tables .entry)) counts) ⌝ }
 {
     check_table(0, tables.nodes.len(), counts.nodes, MAX_NODES)?;
-    check_table(1, tables.attributes.len(), counts.attributes, MAX_ATTRIBUTES)?;
+    check_table(
+        1,
+        tables.attributes.len(),
+        counts.attributes,
+        MAX_ATTRIBUTES,
+    )?;
     check_table(2, tables.bytes.len(), counts.bytes, MAX_BYTES)?;
     check_table(3, tables.lengths.len(), counts.lengths, MAX_LENGTHS)?;
     Ok(())
