@@ -125,7 +125,7 @@ def main():
           "ghost use mathlib.Core.Path.{_≡_};\nghost use Rattle.names.specs.EIds.{all, spelling};\n"
           "ghost use Rattle.names.specs.Rows.{shown, spelt};\nuse crate::EId;\n\n"
           + rows("ROWS", "Each tag with its spelling, in the order of the enum.", "EId", eids, eid_spelt)
-          + "\n/// Each tag with its spelling, in the order of the enum.\npub fn rows() -> &'static [(EId, &'static str)]\n"
+          + "\n/// Each tag with its spelling, in the order of the enum.\npub(crate) fn rows() -> &'static [(EId, &'static str)]\n"
           "    ensures { λ r. ⌜ shown (now r) ≡ spelt spelling all ⌝ }\n{\n    &ROWS\n}\n")
 
     parts = [aids[i:i + PART] for i in range(0, len(aids), PART)]
@@ -135,7 +135,7 @@ def main():
           "ghost use mathlib.Core.Path.{_≡_};\nghost use Rattle.names.specs.AIds.{spelling};\n"
           "ghost use Rattle.names.specs.Parts.{part};\nghost use Rattle.names.specs.Rows.{shown, spelt};\nuse crate::AId;\n"
           + "".join("\n" + rows(w.upper(), f"The {w} {len(p)} names.", "AId", p, aid_spelt)
-                    + f"\n/// The rows of the {w} part.\npub fn {w}() -> &'static [(AId, &'static str)]\n"
+                    + f"\n/// The rows of the {w} part.\npub(crate) fn {w}() -> &'static [(AId, &'static str)]\n"
                     f"    ensures {{ λ r. ⌜ shown (now r) ≡ spelt spelling (part {i}) ⌝ }}\n{{\n    &{w.upper()}\n}}\n"
                     for i, (w, p) in enumerate(zip(words, parts))))
 
