@@ -1,4 +1,6 @@
 //! What building a card writes in its tables: one node more, values at the end of a table, one attribute more of an element.
+#![tactic(auto)]
+
 ghost use Rattle.std.specs.Prelude.{◌≡◌, ◌+◌, ◌^◌, ◌<◌, ◌≤◌, length, get_or, slice_index_or, slice_set};
 ghost use Rattle.std.specs.Option.{unwrap_or};
 ghost use Rattle.card.specs.Tables.{blank};

@@ -1,4 +1,6 @@
 //! Runs a script of calls on a caption card, and prints what each call answered.
+#![tactic(auto)]
+
 mod answer;
 mod line;
 mod session;

@@ -218,7 +218,7 @@ impl Lent {
         match card.texts(self.tables(), list.as_mut_slice()) {
             Ok(count) => {
                 list.truncate(count);
-                list.sort();
+                list.sort_unstable();
                 Ok(Answer::Texts(list))
             }
             Err(fault) => Ok(Answer::Refused(fault)),

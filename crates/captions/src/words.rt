@@ -86,7 +86,7 @@ impl<'a> Words<'a> {
     /// The next word as a link: a number, or `-` for none.
     pub(crate) fn link(&mut self) -> Option<Option<u32>> {
         let start = self.at;
-        if self.word()? == b"-" {
+        if self.word()? == b"-".as_slice() {
             return Some(None);
         }
         self.at = start;

@@ -1,20 +1,19 @@
 -- The order of the tables: the test and the facts are one, and what the contents owe to it.
-use Rattle.std.proofs.Common.{◌≡◌, ℕ, zero, suc, ◌+◌, ◌<◌, ◌≤◌, min, max, Bool, true, false, cond, not, ◌&&◌, eqb, ltb, leb, ◌⊎◌, List, [], ◌∷◌, map, length, get_or, take, Some, None, Option, sym, refl, ap, ◌∙◌, subst, inl, inr, ⊎_elim, arith, length-take}
+use Rattle.std.proofs.Common.{◌≡◌, ℕ, ◌<◌, ◌≤◌, max, true, false, not, ltb, leb, List, [], ◌∷◌, map, length, take, Some, None, sym, refl, ap, ◌∙◌, subst, arith}
 use lib.ListN.{length-map}
-use Rattle.std.specs.List.{AllByRecursion as All}
-use Rattle.std.proofs.ByRecursion.{All-map}
+use Rattle.std.specs.List.{AllByRecursion}
 use Rattle.std.proofs.lemmas.List.{get_or-map, get_or-take, length-take-le}
-use Rattle.std.proofs.lemmas.Bool.{and_parts, and_from, not-true, not-false, not_from_true, not_from_false, cases_lt, both_ways, lt-ltb, ltb-true, le-leb, leb-true}
+use Rattle.std.proofs.lemmas.Bool.{and_parts, and_from, not-false, not_from_true, not_from_false, lt-ltb, ltb-true, le-leb, leb-true}
 use Rattle.card.specs.declared.record.Attribute.{Attribute}
 use Rattle.card.specs.declared.record.NodeKind.{NodeKind}
 use Rattle.card.specs.declared.record.NodeKind.TheVariants as kind
 use Rattle.card.specs.declared.record.TableCounts.{TableCounts}
-use Rattle.card.specs.Lists.{all, lowest}
-use Rattle.card.specs.Contents.{Attr, Item, root, Card, item, parent_of, attrs_of, bytes_of, above}
+use Rattle.card.specs.Lists.{all}
+use Rattle.card.specs.Contents.{root, item, attrs_of, bytes_of, above}
 use Rattle.card.specs.Order.{is_utf8, keeps_rules, in_place, AttrInOrder, ItemInOrder, InOrder}
 use Rattle.card.specs.Tables.{Entries, blank, node, run_in, reading_of, attr_of, item_of, item_by, contents}
 use Rattle.card.specs.TableOrder.{same_link, in_use, follows_on, parented, first_child, last_child, next_sibling, attribute_in_order, filled, NodeInOrder, in_order, lowest_out_of_order, TablesInOrder}
-use Rattle.card.proofs.Numbers.{lowest_none, lowest_some, lowest_nowhere, lowest_is}
+use Rattle.card.proofs.Numbers.{lowest_none, lowest_nowhere, lowest_is}
 use Rattle.card.proofs.Links.{same_link_true, link_same}
 
 -- ---- contents
@@ -86,7 +85,7 @@ module _ (e : Entries) (c : TableCounts) where
 
 -- ---- contents of tables in order are in order
 
-attrs_hold : (e : Entries) (c : TableCounts) (as' : List Attribute) → all (attribute_in_order e c) as' ≡ true → All AttrInOrder (map (attr_of e) as')
+attrs_hold : (e : Entries) (c : TableCounts) (as' : List Attribute) → all (attribute_in_order e c) as' ≡ true → AllByRecursion AttrInOrder (map (attr_of e) as')
 unfolding attribute_in_order
 attrs_hold e c [] h = tt
 attrs_hold e c (a ∷ rest) h =
@@ -103,7 +102,7 @@ module _ (e : Entries) (c : TableCounts) where
   spelled_by k p (kind.Element tag run) h = refl
   spelled_by k p (kind.Text run) h = (and_parts (is_utf8 (run_in run e.bytes)) true (and_parts (in_use c.bytes run) _ h).1).0
 
-  attrs_by : (k p : ℕ) (n : NodeKind) → filled e c k n ≡ true → All AttrInOrder (attrs_of (item_by e p n))
+  attrs_by : (k p : ℕ) (n : NodeKind) → filled e c k n ≡ true → AllByRecursion AttrInOrder (attrs_of (item_by e p n))
   attrs_by k p kind.Root h = tt
   attrs_by k p (kind.Element tag run) h =
       let a = and_parts (in_use c.attributes run) _ h in
@@ -118,7 +117,7 @@ module _ (e : Entries) (c : TableCounts) where
         place = n.place;
         depth = n.depth;
         spelled = ap (λ it. is_utf8 (bytes_of it)) i ∙ spelled_by k _ (node e k).kind n.runs;
-        attrs = subst (λ it. All AttrInOrder (attrs_of it)) (sym i) (attrs_by k _ (node e k).kind n.runs);
+        attrs = subst (λ it. AllByRecursion AttrInOrder (attrs_of it)) (sym i) (attrs_by k _ (node e k).kind n.runs);
       }
 
   pub contents_in_order : c.nodes ≤ length e.nodes → TablesInOrder e c → InOrder (contents e c)

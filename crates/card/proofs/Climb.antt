@@ -1,15 +1,15 @@
 -- The way up along the links of the tables, where the nodes up to some number are in order.
-use Rattle.std.proofs.Common.{◌≡◌, ℕ, zero, suc, ◌+◌, ◌<◌, ◌≤◌, Bool, true, false, cond, ◌||◌, eqb, ◌⊎◌, List, [], ◌∷◌, length, is_some, Some, None, Option, unwrap_or, sym, refl, ap, ◌∙◌, subst, ⊎_elim, true≢false, zero-add, one-add, arith}
+use Rattle.std.proofs.Common.{◌≡◌, ℕ, zero, suc, ◌+◌, ◌<◌, ◌≤◌, true, false, cond, ◌||◌, List, [], ◌∷◌, length, is_some, Some, None, Option, unwrap_or, sym, refl, ap, ◌∙◌, subst, ⊎_elim, true≢false, zero-add, one-add, arith}
 use mathlib.Core.Bool.{false≢true}
 use Rattle.std.proofs.lemmas.Bool.{cases_Bool, cases_lt, ne_eqb}
 use Rattle.card.specs.declared.record.NodeKind.{NodeKind}
 use Rattle.card.specs.declared.record.NodeKind.TheVariants as kind
 use Rattle.card.specs.declared.record.TableCounts.{TableCounts}
 use Rattle.card.specs.Lists.{member}
-use Rattle.card.specs.Contents.{Item, root, Card, item, parent_of, parent, above}
+use Rattle.card.specs.Contents.{root, Card, item, parent_of, parent, above}
 use Rattle.card.specs.Order.{is_root, in_place}
 use Rattle.card.specs.Tables.{Entries, node, item_of, item_by, contents, Whole}
-use Rattle.card.specs.TableOrder.{is_element, parented, in_order, SoundBelow}
+use Rattle.card.specs.TableOrder.{is_element, parented, SoundBelow}
 use Rattle.card.proofs.Checked.{item_at, facts}
 use Rattle.card.proofs.Upward.{Rises, rises_to, rises_less, root_way, element_way, text_way, found, member_first, not_root}
 

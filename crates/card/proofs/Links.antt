@@ -1,6 +1,6 @@
 -- What the links of the nodes ought to be when there is one node more.
-use Rattle.std.proofs.Common.{◌≡◌, ℕ, zero, suc, ◌+◌, ◌<◌, ◌≤◌, Bool, true, false, cond, ◌&&◌, eqb, ltb, ◌⊎◌, is_some, Some, None, Option, sym, refl, ap, ◌∙◌, subst, inl, inr, ⊎_elim, arith}
-use Rattle.std.proofs.lemmas.Bool.{and_parts, and_from, and_left, and_right, cases_Bool, cases_lt, cases_eq, true≢false, false≢true, lt-ltb, le-ltb, ltb-true, eqb-true, eq-eqb, cond-true, cond-false}
+use Rattle.std.proofs.Common.{◌≡◌, ℕ, suc, ◌<◌, true, false, ltb, is_some, Some, None, Option, sym, refl, ap, ◌∙◌, subst, ⊎_elim, arith}
+use Rattle.std.proofs.lemmas.Bool.{and_parts, and_from, cases_Bool, cases_lt, true≢false, false≢true, lt-ltb, ltb-true, eqb-true, eq-eqb}
 use Rattle.card.specs.Lists.{highest, lowest}
 use Rattle.card.specs.Tables.{Entries, node}
 use Rattle.card.specs.TableOrder.{same_link, child, siblings, later_sibling}

@@ -1,7 +1,6 @@
 -- The place of one node, as a check of its kind and its parent link finds it.
-use Rattle.std.proofs.Common.{◌≡◌, ℕ, zero, suc, ◌-◌, ◌<◌, ◌≤◌, Bool, true, false, not, ◌&&◌, eqb, ◌⊎◌, is_some, Some, None, Option, unwrap_or, sym, refl, ap, ◌∙◌, subst, ⊎_elim, true≢false, arith}
+use Rattle.std.proofs.Common.{◌≡◌, ℕ, zero, suc, ◌-◌, ◌<◌, ◌≤◌, Bool, false, not, ◌&&◌, eqb, is_some, Some, None, Option, unwrap_or, sym, refl, ap, ◌∙◌, arith}
 use Rattle.std.proofs.lemmas.Bool.{ne_eqb}
-use Rattle.names.specs.EIds as tags
 use Rattle.names.specs.declared.EId.TheVariants as tag
 use Rattle.card.specs.declared.record.NodeKind.{NodeKind}
 use Rattle.card.specs.declared.record.NodeKind.TheVariants as kind
@@ -9,7 +8,7 @@ use Rattle.card.specs.declared.record.TableCounts.{TableCounts}
 use Rattle.card.specs.Lists.{member}
 use Rattle.card.specs.Contents.{item, parent_of, tagged, above}
 use Rattle.card.specs.Order.{is_root, in_place}
-use Rattle.card.specs.Tables.{Entries, node, item_of, item_by, contents, Whole}
+use Rattle.card.specs.Tables.{Entries, node, item_by, contents, Whole}
 use Rattle.card.specs.TableOrder.{is_root_kind, is_svg, parented}
 use Rattle.card.proofs.Checked.{item_at}
 

@@ -1,5 +1,5 @@
 -- That the test for UTF-8, and the longest valid start, are what the library's reader finds.
-use Rattle.std.proofs.Common.{◌≡◌, ℕ, zero, suc, ◌<◌, ◌≤◌, true, false, cond, List, length, take, IsUtf8, Decides, sym, ap, ◌∙◌, subst, ⊎_elim, arith}
+use Rattle.std.proofs.Common.{◌≡◌, ℕ, zero, suc, ◌≤◌, true, false, List, length, take, IsUtf8, Decides, sym, ◌∙◌, subst, ⊎_elim, arith}
 use lib.Utf8.{encodes, scalars}
 use Rattle.std.specs.Str.{IsValidUpTo, chars, bytes_eq}
 use Rattle.std.proofs.lemmas.Slice.Eq.{bytes_eq-Decides}

@@ -1,8 +1,8 @@
 -- The way up in a card whose parents, up to some number, have lower numbers than their children.
-use Rattle.std.proofs.Common.{◌≡◌, ℕ, zero, suc, ◌<◌, ◌≤◌, true, false, not, eqb, ◌⊎◌, List, [], ◌∷◌, ◌++◌, length, sym, refl, ap, ◌∙◌, subst, ⊎_elim, arith}
+use Rattle.std.proofs.Common.{◌≡◌, ℕ, zero, suc, ◌<◌, ◌≤◌, true, not, eqb, List, [], ◌∷◌, ◌++◌, length, sym, refl, ap, ◌∙◌, subst, ⊎_elim, arith}
 use mathlib.Core.Bool.{false≢true}
 use lib.ListN.{get_or-append, get_or-eq_default}
-use Rattle.std.specs.List.{AllByRecursion as All}
+use Rattle.std.specs.List.{AllByRecursion}
 use Rattle.std.proofs.ByRecursion.{All-weaker}
 use Rattle.std.proofs.lemmas.Bool.{and_parts, or_cases, or_left, or_right, eqb-true, eq-eqb, cases_lt}
 use Rattle.names.specs.declared.EId.{EId}
@@ -102,7 +102,7 @@ same_way card other h k = same_climb card other h k k
 abbrev pub Elem : Card → ℕ → Type 0
 Elem card e = (p : ℕ) × (t : EId) × (attrs : List Attr) × (item card e ≡ element p t attrs)
 
-pub from_member : (P : ℕ → Type 0) (k : ℕ) (xs : List ℕ) → All P xs → member k xs ≡ true → P k
+pub from_member : (P : ℕ → Type 0) (k : ℕ) (xs : List ℕ) → AllByRecursion P xs → member k xs ≡ true → P k
 from_member P k [] h m = absurd (false≢true m)
 from_member P k (x ∷ xs) h m = ⊎_elim (λ e. subst P (sym (eqb-true k x e)) h.0) (λ e. from_member P k xs h.1 e) (or_cases (eqb k x) (member k xs) m)
 
@@ -118,19 +118,19 @@ root_is (element p t attrs) e = absurd (false≢true e)
 root_is (text p bytes) e = absurd (false≢true e)
 
 -- the elements from k upward have numbers up to k
-members : (card : Card) (top : ℕ) → ((j : ℕ) → j ≤ top → parent card j ≤ j) → (n k : ℕ) → k ≤ top → All (λ e. (e ≤ k) × Elem card e) (climb n card k)
+members : (card : Card) (top : ℕ) → ((j : ℕ) → j ≤ top → parent card j ≤ j) → (n k : ℕ) → k ≤ top → AllByRecursion (λ e. (e ≤ k) × Elem card e) (climb n card k)
 unfolding climb
 members card top low zero k h = tt
 members card top low (suc n) k h = go (item card k) refl (low k h) (members card top low n (parent card k) (let l = low k h in omega arith))
   where
-    go : (it : Item) → item card k ≡ it → parent card k ≤ k → All (λ e. (e ≤ parent card k) × Elem card e) (climb n card (parent card k)) → All (λ e. (e ≤ k) × Elem card e) (onward it k (λ p. climb n card p))
+    go : (it : Item) → item card k ≡ it → parent card k ≤ k → AllByRecursion (λ e. (e ≤ parent card k) × Elem card e) (climb n card (parent card k)) → AllByRecursion (λ e. (e ≤ k) × Elem card e) (onward it k (λ p. climb n card p))
     go root e l a = tt
     go (element p t attrs) e l a =
         let q : parent card k ≡ p = ap parent_of e in
-        ((omega arith, (p, t, attrs, e)), subst (λ j. All (λ x. (x ≤ k) × Elem card x) (climb n card j)) q (All-weaker (λ x. (x ≤ parent card k) × Elem card x) (λ x. (x ≤ k) × Elem card x) (λ x b. (let u = b.0 in omega arith, b.1)) (climb n card (parent card k)) a))
+        ((omega arith, (p, t, attrs, e)), subst (λ j. AllByRecursion (λ x. (x ≤ k) × Elem card x) (climb n card j)) q (All-weaker (λ x. (x ≤ parent card k) × Elem card x) (λ x. (x ≤ k) × Elem card x) (λ x b. (let u = b.0 in omega arith, b.1)) (climb n card (parent card k)) a))
     go (text p bytes) e l a =
         let q : parent card k ≡ p = ap parent_of e in
-        subst (λ j. All (λ x. (x ≤ k) × Elem card x) (climb n card j)) q (All-weaker (λ x. (x ≤ parent card k) × Elem card x) (λ x. (x ≤ k) × Elem card x) (λ x b. (let u = b.0 in omega arith, b.1)) (climb n card (parent card k)) a)
+        subst (λ j. AllByRecursion (λ x. (x ≤ k) × Elem card x) (climb n card j)) q (All-weaker (λ x. (x ≤ parent card k) × Elem card x) (λ x. (x ≤ k) × Elem card x) (λ x b. (let u = b.0 in omega arith, b.1)) (climb n card (parent card k)) a)
 
 weak : (card : Card) (top : ℕ) → Rises card top → (j : ℕ) → j ≤ top → parent card j ≤ j
 weak card top r zero h = let q : parent card 0 ≡ 0 = ap parent_of r.rooted in omega arith

@@ -2,7 +2,7 @@
 use Rattle.std.specs.Prelude.{◌≡◌, ℕ, zero, suc, ◌<◌, ◌≤◌, Bool, true, false, cond, not, ◌&&◌, ◌||◌, List, length, take, IsUtf8, Decides, ◌==◌}
 use Rattle.std.proofs.Math.Utf8.{encode, encodes, scalars}
 use Rattle.std.specs.Float.{float_is_finite}
-use Rattle.std.specs.List.{AllByRecursion as All}
+use Rattle.std.specs.List.{AllByRecursion}
 use Rattle.std.specs.Str.{chars, bytes_eq}
 use Rattle.names.specs.declared.EId.TheVariants as tag
 use Rattle.names.specs.declared.LengthUnit.TheVariants as unit
@@ -65,7 +65,7 @@ pub record ItemInOrder (card : Card) (k : ℕ) : Type 0 where
   pub place : in_place card k ≡ true
   pub depth : length (above card k) ≤ 64
   pub spelled : is_utf8 (bytes_of (item card k)) ≡ true
-  pub attrs : All AttrInOrder (attrs_of (item card k))
+  pub attrs : AllByRecursion AttrInOrder (attrs_of (item card k))
 
 -- a card is in order
 pub record InOrder (card : Card) : Type 0 where

@@ -1,5 +1,5 @@
 -- When a node of the tables is in order: one test for each condition, and the lowest node where one fails.
-use Rattle.std.specs.Prelude.{◌≡◌, ℕ, zero, suc, ◌+◌, ◌<◌, ◌≤◌, max, Bool, true, false, cond, not, ◌&&◌, List, [], ◌∷◌, length, is_some, Some, None, Option, ◌==◌, nat_le, nat_lt}
+use Rattle.std.specs.Prelude.{◌≡◌, ℕ, zero, suc, ◌+◌, ◌<◌, ◌≤◌, max, Bool, true, false, cond, not, ◌&&◌, [], ◌∷◌, length, is_some, Some, None, Option, ◌==◌, nat_le, nat_lt}
 use Rattle.names.specs.EIds as tags
 use Rattle.names.specs.declared.EId.TheVariants as tag
 use Rattle.card.specs.declared.record.Run.{Run}
@@ -8,7 +8,7 @@ use Rattle.card.specs.declared.record.NodeKind.{NodeKind}
 use Rattle.card.specs.declared.record.NodeKind.TheVariants as kind
 use Rattle.card.specs.declared.record.TableCounts.{TableCounts}
 use Rattle.card.specs.Lists.{all, holds, highest, lowest}
-use Rattle.card.specs.Contents.{Card, above}
+use Rattle.card.specs.Contents.{above}
 use Rattle.card.specs.Order.{is_utf8, keeps_rules, in_place}
 use Rattle.card.specs.Tables.{Entries, node, run_in, reading_of, contents}
 

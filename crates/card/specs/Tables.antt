@@ -1,5 +1,5 @@
 -- The four tables of a card, and the contents that are read off them.
-use Rattle.std.specs.Prelude.{ℕ, ◌≤◌, Bool, true, false, List, map, length, take, None, Option, slice_index_or}
+use Rattle.std.specs.Prelude.{ℕ, ◌≤◌, false, List, map, length, take, None, slice_index_or}
 use Rattle.std.specs.Float.{nan}
 use Rattle.std.specs.Option.{unwrap_or}
 use Rattle.std.specs.List.{between}

@@ -1,4 +1,6 @@
 //! What a caption card is: the records of its four tables, its limits, and why a call is refused.
+#![tactic(auto)]
+
 mod fault;
 mod record;
 

@@ -1,7 +1,7 @@
 -- Where the characters of an element begin among those of an element around it.
 use Rattle.std.proofs.Common.{◌≡◌, ℕ, zero, suc, ◌+◌, ◌-◌, ◌<◌, ◌≤◌, Bool, true, false, cond, ◌&&◌, ltb, leb, ◌⊎◌, List, [], ◌∷◌, ◌++◌, map, length, get_or, sum_by, count_by, filter, sym, refl, ap, ◌∙◌, subst, ⊎_elim, true≢false, append-nil, add-zero, zero-add, arith, length-append}
 use lib.ListN.{length-map}
-use Rattle.std.specs.List.{range_with_len, flat_map, AllByRecursion as All}
+use Rattle.std.specs.List.{range_with_len, flat_map, AllByRecursion}
 use Rattle.std.proofs.ByRecursion.{All-append, All-weaker, All-map}
 use Rattle.std.proofs.lemmas.List.{get_or_append_left, get_or-append_right, get_or-map}
 use Rattle.std.proofs.lemmas.List.Sums.{sum_by-append, sum_by-cons, length-filter}
@@ -45,18 +45,18 @@ unfolding characters
 number_is card c j d l =
     ap (λ (ch : Character). ch.number) (numbered_at 0 (flat_map (spelled card) (texts_below card c)) j d (0, []) (let q = length_numbered 0 (flat_map (spelled card) (texts_below card c)) in omega arith)) ∙ zero-add j
 
-all_numbered : (P : ℕ → Type 0) (n : ℕ) (xs : List (ℕ × List ℕ)) → All (λ (x : ℕ × List ℕ). P x.0) xs → All (λ (ch : Character). P ch.text) (numbered n xs)
+all_numbered : (P : ℕ → Type 0) (n : ℕ) (xs : List (ℕ × List ℕ)) → AllByRecursion (λ (x : ℕ × List ℕ). P x.0) xs → AllByRecursion (λ (ch : Character). P ch.text) (numbered n xs)
 unfolding numbered
 all_numbered P n [] h = tt
 all_numbered P n (x ∷ xs) h = (h.0, all_numbered P (n + 1) xs h.1)
 
 -- ---- the texts of characters
 
-in_text : (k : ℕ) (bss : List (List ℕ)) → All (λ (x : ℕ × List ℕ). x.0 ≡ k) (map (λ b. (k, b)) bss)
+in_text : (k : ℕ) (bss : List (List ℕ)) → AllByRecursion (λ (x : ℕ × List ℕ). x.0 ≡ k) (map (λ b. (k, b)) bss)
 in_text k [] = tt
 in_text k (b ∷ bss) = (refl, in_text k bss)
 
-in_texts : (card : Card) (a n : ℕ) → All (λ (x : ℕ × List ℕ). (a ≤ x.0) × (x.0 < a + n)) (spelled_from card a n)
+in_texts : (card : Card) (a n : ℕ) → AllByRecursion (λ (x : ℕ × List ℕ). (a ≤ x.0) × (x.0 < a + n)) (spelled_from card a n)
 in_texts card a zero = tt
 in_texts card a (suc n) =
     All-append (λ (x : ℕ × List ℕ). (a ≤ x.0) × (x.0 < a + suc n)) (spelled card a) (spelled_from card (a + 1) n)
@@ -64,7 +64,7 @@ in_texts card a (suc n) =
     (All-weaker (λ (x : ℕ × List ℕ). (a + 1 ≤ x.0) × (x.0 < a + 1 + n)) (λ (x : ℕ × List ℕ). (a ≤ x.0) × (x.0 < a + suc n)) (λ x h. let l = h.0 in let u = h.1 in (omega arith, omega arith)) (spelled_from card (a + 1) n) (in_texts card (a + 1) n))
 
 -- the characters of texts with a number in a range
-ranged : (card : Card) (a n m : ℕ) (P : ℕ → Type 0) → ((k : ℕ) → a ≤ k → k < a + n → P k) → All (λ (ch : Character). P ch.text) (numbered m (spelled_from card a n))
+ranged : (card : Card) (a n m : ℕ) (P : ℕ → Type 0) → ((k : ℕ) → a ≤ k → k < a + n → P k) → AllByRecursion (λ (ch : Character). P ch.text) (numbered m (spelled_from card a n))
 ranged card a n m P h = all_numbered P m (spelled_from card a n) (All-weaker (λ (x : ℕ × List ℕ). (a ≤ x.0) × (x.0 < a + n)) (λ (x : ℕ × List ℕ). P x.0) (λ x r. h x.0 r.0 r.1) (spelled_from card a n) (in_texts card a n))
 
 -- ---- how many stand before a number
@@ -163,9 +163,9 @@ pub record Held (card : Card) (c x : ℕ) : Type 0 where
   pub after : List Character
   pub parts : characters card c ≡ before ++ (map (later_by (chars_before (characters card c) x)) (characters card x) ++ after)
   pub offset : length before ≡ chars_before (characters card c) x
-  pub earlier : All (λ (ch : Character). below card x ch.text ≡ false) before
-  pub inside : All (λ (ch : Character). below card x ch.text ≡ true) (characters card x)
-  pub later : All (λ (ch : Character). below card x ch.text ≡ false) after
+  pub earlier : AllByRecursion (λ (ch : Character). below card x ch.text ≡ false) before
+  pub inside : AllByRecursion (λ (ch : Character). below card x ch.text ≡ true) (characters card x)
+  pub later : AllByRecursion (λ (ch : Character). below card x ch.text ≡ false) after
 
 module _ (card : Card) (order : InOrder card) (c x : ℕ) (outer : is_element card c ≡ true) (inner : is_element card x ≡ true) (at : (x ≡ c) ⊎ (below card c x ≡ true)) where
   end_c : (r : ℕ) × Ends card c r
@@ -236,7 +236,7 @@ module _ (card : Card) (order : InOrder card) (c x : ℕ) (outer : is_element ca
   offset_is = let i = in_c in before_between card c end_c.0 x lies_c from_c (omega arith) ∙ sym (length_spelled card (range_with_len (c + 1) (x - (c + 1))))
 
   -- a text of the card is below x where it stands between x and its end
-  below_by : (b : Bool) (a n m : ℕ) → ((k : ℕ) → a ≤ k → k < a + n → (k < length card) × ((ltb x k && ltb k end_x.0) ≡ b)) → All (λ (ch : Character). below card x ch.text ≡ b) (numbered m (spelled_from card a n))
+  below_by : (b : Bool) (a n m : ℕ) → ((k : ℕ) → a ≤ k → k < a + n → (k < length card) × ((ltb x k && ltb k end_x.0) ≡ b)) → AllByRecursion (λ (ch : Character). below card x ch.text ≡ b) (numbered m (spelled_from card a n))
   below_by b a n m h = ranged card a n m (λ k. below card x k ≡ b) (λ k l u. lies_x.exact k (h k l u).0 ∙ (h k l u).1)
 
   abbrev shifted_x : List Character
@@ -260,11 +260,11 @@ module _ (card : Card) (order : InOrder card) (c x : ℕ) (outer : is_element ca
             ∙ ap (λ ys. numbered 0 fronts ++ ys) (numbered_append (length fronts) middle backs ∙ ap (λ ys. ys ++ numbered (length fronts + length middle) backs) shifted);
         offset = length_numbered 0 fronts ∙ sym offset_is;
         earlier = below_by false (c + 1) (x - (c + 1)) 0 (λ k l u. (omega arith, and_left (ltb x k) (ltb k end_x.0) (le-ltb x k (omega arith))));
-        inside = subst (λ ys. All (λ (ch : Character). below card x ch.text ≡ true) ys) (sym (characters_between card x end_x.0 lies_x)) (below_by true (x + 1) (end_x.0 - (x + 1)) 0 (λ k l u. (omega arith, and_from (ltb x k) (ltb k end_x.0) (lt-ltb x k (omega arith)) (lt-ltb k end_x.0 (omega arith)))));
+        inside = subst (λ ys. AllByRecursion (λ (ch : Character). below card x ch.text ≡ true) ys) (sym (characters_between card x end_x.0 lies_x)) (below_by true (x + 1) (end_x.0 - (x + 1)) 0 (λ k l u. (omega arith, and_from (ltb x k) (ltb k end_x.0) (lt-ltb x k (omega arith)) (lt-ltb k end_x.0 (omega arith)))));
         later = below_by false end_x.0 (end_c.0 - end_x.0) (length fronts + length middle) (λ k l u. (omega arith, and_right (ltb x k) (ltb k end_x.0) (le-ltb k end_x.0 (omega arith))));
       }
 
-  inside_shifted : All (λ (ch : Character). below card x ch.text ≡ true) shifted_x
+  inside_shifted : AllByRecursion (λ (ch : Character). below card x ch.text ≡ true) shifted_x
   inside_shifted = All-map (λ (ch : Character). below card x ch.text ≡ true) (later_by (chars_before (characters card c) x)) (characters card x) held.inside
 
   -- the characters of c below x are those of x, numbered from where they begin

@@ -1,6 +1,6 @@
 -- A list in three parts, of which a test passes the middle one.
 use Rattle.std.proofs.Common.{◌≡◌, ℕ, ◌+◌, ◌-◌, ◌<◌, Bool, true, false, ◌&&◌, ltb, leb, List, [], ◌∷◌, ◌++◌, length, get_or, count_by, filter, sym, refl, ap, ◌∙◌, ⊎_elim, append-nil, arith, length-append}
-use Rattle.std.specs.List.{AllByRecursion as All}
+use Rattle.std.specs.List.{AllByRecursion}
 use Rattle.std.proofs.lemmas.List.Elements.{filter-append}
 use Rattle.std.proofs.ByRecursion.{All-get_or}
 use Rattle.std.proofs.lemmas.List.{get_or_append_left, get_or-append_right}
@@ -8,15 +8,15 @@ use Rattle.std.proofs.lemmas.List.Sums.{length-filter}
 use Rattle.std.proofs.lemmas.Bool.{cond-true, cond-false, cases_lt, and_from, and_left, and_right, lt-ltb, le-ltb, le-leb, lt-leb}
 
 module _ {X : Type 0} (p : X → Bool) where
-  pub keeps_all : (xs : List X) → All (λ x. p x ≡ true) xs → filter p xs ≡ xs
+  pub keeps_all : (xs : List X) → AllByRecursion (λ x. p x ≡ true) xs → filter p xs ≡ xs
   keeps_all [] h = refl
   keeps_all (x ∷ xs) h = cond-true (p x) (x ∷ filter p xs) (filter p xs) h.0 ∙ ap {B = List X} (λ ys. x ∷ ys) (keeps_all xs h.1)
 
-  pub keeps_none : (xs : List X) → All (λ x. p x ≡ false) xs → filter p xs ≡ []
+  pub keeps_none : (xs : List X) → AllByRecursion (λ x. p x ≡ false) xs → filter p xs ≡ []
   keeps_none [] h = refl
   keeps_none (x ∷ xs) h = cond-false (p x) (x ∷ filter p xs) (filter p xs) h.0 ∙ keeps_none xs h.1
 
-  module _ (xs ys zs : List X) (before : All (λ x. p x ≡ false) xs) (inside : All (λ x. p x ≡ true) ys) (after : All (λ x. p x ≡ false) zs) where
+  module _ (xs ys zs : List X) (before : AllByRecursion (λ x. p x ≡ false) xs) (inside : AllByRecursion (λ x. p x ≡ true) ys) (after : AllByRecursion (λ x. p x ≡ false) zs) where
     pub keeps_middle : filter p (xs ++ (ys ++ zs)) ≡ ys
     keeps_middle =
         filter-append p xs (ys ++ zs)
@@ -41,7 +41,7 @@ module _ {X : Type 0} (p : X → Bool) where
         (cases_lt j (length xs))
 
   -- a test that passes the first part alone counts it
-  pub counts_first : (xs ys : List X) → All (λ x. p x ≡ true) xs → All (λ x. p x ≡ false) ys → count_by p (xs ++ ys) ≡ length xs
+  pub counts_first : (xs ys : List X) → AllByRecursion (λ x. p x ≡ true) xs → AllByRecursion (λ x. p x ≡ false) ys → count_by p (xs ++ ys) ≡ length xs
   counts_first xs ys h k =
       sym (length-filter p (xs ++ ys))
       ∙ ap length (filter-append p xs ys ∙ ap (λ ks. filter p xs ++ ks) (keeps_none ys k) ∙ append-nil (filter p xs) ∙ keeps_all xs h)

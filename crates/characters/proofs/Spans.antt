@@ -2,7 +2,7 @@
 use Rattle.std.proofs.Common.{◌≡◌, ℕ, zero, suc, ◌+◌, ◌-◌, ◌*◌, ◌<◌, ◌≤◌, Bool, true, false, cond, ◌&&◌, ltb, List, [], ◌∷◌, ◌++◌, map, length, sum_by, filter, sym, refl, ap, ◌∙◌, subst, ⊎_elim, true≢false, append_assoc, append-nil, add-zero, suc-add, zero-add, arith, length-append}
 use lib.ListN.{length-map}
 use lib.Utf8.{encode}
-use Rattle.std.specs.List.{range_with_len, flat_map, AllByRecursion as All}
+use Rattle.std.specs.List.{range_with_len, flat_map, AllByRecursion}
 use Rattle.std.proofs.lemmas.List.FromFn.{length-range_with_len}
 use Rattle.std.proofs.lemmas.List.Elements.{filter-append}
 use Rattle.std.proofs.lemmas.List.Sums.{sum_by-cons, sum_by_push}
@@ -21,15 +21,15 @@ counting_split a (suc m) n =
     let q : a + 1 + m ≡ a + suc m = omega arith in
     ap (range_with_len a) (suc-add m n) ∙ ap {B = List ℕ} (λ xs. a ∷ xs) (counting_split (a + 1) m n ∙ ap (λ b. range_with_len (a + 1) m ++ range_with_len b n) q)
 
-pub all_counting : (P : ℕ → Type 0) (a n : ℕ) → ((k : ℕ) → a ≤ k → k < a + n → P k) → All P (range_with_len a n)
+pub all_counting : (P : ℕ → Type 0) (a n : ℕ) → ((k : ℕ) → a ≤ k → k < a + n → P k) → AllByRecursion P (range_with_len a n)
 all_counting P a zero h = tt
 all_counting P a (suc n) h = (h a (omega arith) (omega arith), all_counting P (a + 1) n (λ k l u. h k (omega arith) (omega arith)))
 
-kept_none : (p : ℕ → Bool) (xs : List ℕ) → All (λ k. p k ≡ false) xs → filter p xs ≡ []
+kept_none : (p : ℕ → Bool) (xs : List ℕ) → AllByRecursion (λ k. p k ≡ false) xs → filter p xs ≡ []
 kept_none p [] h = refl
 kept_none p (x ∷ xs) h = cond-false (p x) (x ∷ filter p xs) (filter p xs) h.0 ∙ kept_none p xs h.1
 
-kept_same : (p q : ℕ → Bool) (xs : List ℕ) → All (λ k. p k ≡ q k) xs → filter p xs ≡ filter q xs
+kept_same : (p q : ℕ → Bool) (xs : List ℕ) → AllByRecursion (λ k. p k ≡ q k) xs → filter p xs ≡ filter q xs
 kept_same p q [] h = refl
 kept_same p q (x ∷ xs) h = ap (λ b. cond b (x ∷ filter p xs) (filter p xs)) h.0 ∙ ap (λ ys. cond (q x) (x ∷ ys) ys) (kept_same p q xs h.1)
 

@@ -1,4 +1,6 @@
 //! The characters of an element: the code points of all texts below it.
+#![tactic(auto)]
+
 mod below;
 mod text;
 

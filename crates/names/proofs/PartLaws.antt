@@ -1,5 +1,5 @@
 -- Laws of the search among the names of attributes, part by part.
-use Rattle.std.proofs.Common.{◌≡◌, ℕ, ◌+◌, ◌*◌, T, List, drop, Some, None, Option, sym, refl, ap, ◌∙◌, arith}
+use Rattle.std.proofs.Common.{◌≡◌, ℕ, ◌+◌, ◌*◌, T, List, drop, Some, None, Option, refl, ap, ◌∙◌, arith}
 use Rattle.names.specs.declared.AId.{AId}
 use Rattle.names.specs.contracts.AId.{enum}
 use Rattle.names.specs.AIds.{all, read, spelling}

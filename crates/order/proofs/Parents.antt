@@ -1,10 +1,10 @@
 -- What one step of the pass over the parents keeps.
-use Rattle.std.proofs.Common.{◌≡◌, ℕ, suc, ◌+◌, ◌<◌, ◌≤◌, true, false, cond, ◌⊎◌, List, length, get_or, set, Some, None, Option, sym, refl, ap, ◌∙◌, subst, ⊎_elim, add-one, arith}
+use Rattle.std.proofs.Common.{◌≡◌, ℕ, suc, ◌+◌, ◌<◌, ◌≤◌, false, cond, List, length, get_or, set, Some, None, Option, sym, ap, ◌∙◌, subst, ⊎_elim, add-one, arith}
 use Rattle.std.proofs.lemmas.List.{get_or-set_same, get_or-set_other}
 use Rattle.std.proofs.lemmas.Bool.{cases_eq, cases_lt, lt-ltb, le-ltb}
 use Rattle.card.specs.Lists.{highest, lowest}
 use Rattle.card.specs.Tables.{Entries, node}
-use Rattle.card.specs.TableOrder.{child, later_sibling, same_link}
+use Rattle.card.specs.TableOrder.{child, later_sibling}
 use Rattle.card.proofs.Numbers.{option_cases, highest_here, highest_skip, highest_some, highest_nowhere, lowest_nowhere}
 use Rattle.card.proofs.Links.{child_from, child_is, link_other, next_after_none, next_after_other, next_after_last, next_after_kept, next_of_orphan}
 use Rattle.order.specs.Links.{with_next, last_noted, next_noted, Expected, Unlinked}

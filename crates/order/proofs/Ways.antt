@@ -1,5 +1,5 @@
 -- What a climb along the parents keeps, and what it finds at its end. The counts of the card are no variable of the loops, so it is said of all.
-use Rattle.std.proofs.Common.{◌≡◌, ℕ, suc, ◌+◌, ◌<◌, ◌≤◌, Bool, true, false, cond, List, [], length, Some, None, Option, sym, refl, ap, ◌∙◌, subst, add-one, arith}
+use Rattle.std.proofs.Common.{◌≡◌, ℕ, ◌+◌, ◌<◌, ◌≤◌, Bool, false, cond, [], length, Some, None, sym, ap, ◌∙◌, subst, add-one, arith}
 use Rattle.card.specs.declared.record.TableCounts.{TableCounts}
 use Rattle.card.specs.Lists.{member}
 use Rattle.card.specs.Contents.{above}

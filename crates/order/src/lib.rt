@@ -1,4 +1,6 @@
 //! The check that a card is in order: one pass over its tables that finds the lowest node where a condition fails.
+#![tactic(auto)]
+
 mod attribute;
 mod check;
 mod climb;

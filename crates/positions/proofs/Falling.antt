@@ -1,7 +1,7 @@
 -- The elements around a character fall in number, so those below a bound are the last of them.
 use Rattle.std.proofs.Common.{◌≡◌, ℕ, zero, suc, ◌+◌, ◌<◌, ◌≤◌, Bool, true, false, cond, ◌||◌, eqb, ltb, ◌⊎◌, List, [], ◌∷◌, filter, sym, refl, ap, ◌∙◌, subst, inl, inr, ⊎_elim, arith}
 use mathlib.Core.Bool.{false≢true}
-use Rattle.std.specs.List.{AllByRecursion as All}
+use Rattle.std.specs.List.{AllByRecursion}
 use Rattle.std.proofs.ByRecursion.{All-weaker}
 use Rattle.std.proofs.lemmas.Bool.{cases_order, cases_Bool, cases_eq, cond-true, cond-false, lt-ltb, le-ltb, eqb-true, eq-eqb, ne_eqb, or_cases}
 use Rattle.card.specs.Lists.{member, up_to}
@@ -16,16 +16,16 @@ use Rattle.positions.specs.Stacked.{stacked}
 -- each is lower than all before it
 abbrev pub Falls : List ℕ → Type 0
 Falls [] = Unit {0}
-Falls (x ∷ xs) = All (λ y. y < x) xs × Falls xs
+Falls (x ∷ xs) = AllByRecursion (λ y. y < x) xs × Falls xs
 
 -- those below a bound
 abbrev pub lower : ℕ → List ℕ → List ℕ
 lower m xs = filter (λ e. ltb e m) xs
 
-absent : (m : ℕ) (xs : List ℕ) → All (λ y. y < m) xs → member m xs ≡ false
+absent : (m : ℕ) (xs : List ℕ) → AllByRecursion (λ y. y < m) xs → member m xs ≡ false
 absent m xs h = ⊎_elim (λ t. absurd (let l = from_member (λ y. y < m) m xs h t in omega arith)) (λ f. f) (cases_Bool (member m xs))
 
-all_kept : (m : ℕ) (xs : List ℕ) → All (λ y. y < m) xs → lower m xs ≡ xs
+all_kept : (m : ℕ) (xs : List ℕ) → AllByRecursion (λ y. y < m) xs → lower m xs ≡ xs
 all_kept m xs h = keeps_all (λ e. ltb e m) xs (All-weaker (λ y. y < m) (λ y. ltb y m ≡ true) (λ y l. lt-ltb y m l) xs h)
 
 -- one bound more keeps at most one more, and that in front
@@ -35,8 +35,8 @@ lower_more m (x ∷ xs) f = ⊎_elim same (⊎_elim less (more (lower_more m xs 
   where
     same : x ≡ m → lower (m + 1) (x ∷ xs) ≡ cond (member m (x ∷ xs)) (m ∷ lower m (x ∷ xs)) (lower m (x ∷ xs))
     same e =
-        let small : All (λ y. y < m) xs = All-weaker (λ y. y < x) (λ y. y < m) (λ y l. omega arith) xs f.0 in
-        let wide : All (λ y. y < m + 1) xs = All-weaker (λ y. y < x) (λ y. y < m + 1) (λ y l. omega arith) xs f.0 in
+        let small : AllByRecursion (λ y. y < m) xs = All-weaker (λ y. y < x) (λ y. y < m) (λ y l. omega arith) xs f.0 in
+        let wide : AllByRecursion (λ y. y < m + 1) xs = All-weaker (λ y. y < x) (λ y. y < m + 1) (λ y l. omega arith) xs f.0 in
         let here : member m (x ∷ xs) ≡ true = subst (λ z. member m (z ∷ xs) ≡ true) (sym e) (member_first m xs) in
         cond-true (ltb x (m + 1)) (x ∷ lower (m + 1) xs) (lower (m + 1) xs) (lt-ltb x (m + 1) (omega arith))
         ∙ (λ i. e i ∷ all_kept (m + 1) xs wide i)
@@ -44,8 +44,8 @@ lower_more m (x ∷ xs) f = ⊎_elim same (⊎_elim less (more (lower_more m xs 
 
     less : x < m → lower (m + 1) (x ∷ xs) ≡ cond (member m (x ∷ xs)) (m ∷ lower m (x ∷ xs)) (lower m (x ∷ xs))
     less l =
-        let small : All (λ y. y < m) (x ∷ xs) = (l, All-weaker (λ y. y < x) (λ y. y < m) (λ y u. omega arith) xs f.0) in
-        let wide : All (λ y. y < m + 1) (x ∷ xs) = All-weaker (λ y. y < m) (λ y. y < m + 1) (λ y u. omega arith) (x ∷ xs) small in
+        let small : AllByRecursion (λ y. y < m) (x ∷ xs) = (l, All-weaker (λ y. y < x) (λ y. y < m) (λ y u. omega arith) xs f.0) in
+        let wide : AllByRecursion (λ y. y < m + 1) (x ∷ xs) = All-weaker (λ y. y < m) (λ y. y < m + 1) (λ y u. omega arith) (x ∷ xs) small in
         all_kept (m + 1) (x ∷ xs) wide ∙ sym (cond-false (member m (x ∷ xs)) (m ∷ lower m (x ∷ xs)) (lower m (x ∷ xs)) (absent m (x ∷ xs) small) ∙ all_kept m (x ∷ xs) small)
 
     more : lower (m + 1) xs ≡ cond (member m xs) (m ∷ lower m xs) (lower m xs) → m < x → lower (m + 1) (x ∷ xs) ≡ cond (member m (x ∷ xs)) (m ∷ lower m (x ∷ xs)) (lower m (x ∷ xs))
@@ -69,11 +69,11 @@ up_to_member c m (x ∷ xs) f l h = go (eqb x c) refl (up_to_member c m xs f.1 l
     go false e rest =
         ap (λ b. eqb m x || b) (rest (⊎_elim (λ t. let q = eqb-true c x t in absurd (false≢true (sym e ∙ eq-eqb x c (sym q)))) (λ t. t) (or_cases (eqb c x) (member c xs) h)))
 
-up_to_all : (P : ℕ → Type 0) (c : ℕ) (xs : List ℕ) → All P xs → All P (up_to c xs)
+up_to_all : (P : ℕ → Type 0) (c : ℕ) (xs : List ℕ) → AllByRecursion P xs → AllByRecursion P (up_to c xs)
 up_to_all P c [] h = tt
 up_to_all P c (x ∷ xs) h = (h.0, go (eqb x c) (up_to_all P c xs h.1))
   where
-    go : (b : Bool) → All P (up_to c xs) → All P (cond b [] (up_to c xs))
+    go : (b : Bool) → AllByRecursion P (up_to c xs) → AllByRecursion P (cond b [] (up_to c xs))
     go true r = tt
     go false r = r
 
@@ -81,15 +81,15 @@ pub up_to_falls : (c : ℕ) (xs : List ℕ) → Falls xs → Falls (up_to c xs)
 up_to_falls c [] f = tt
 up_to_falls c (x ∷ xs) f = go (eqb x c) (up_to_falls c xs f.1) (up_to_all (λ y. y < x) c xs f.0)
   where
-    go : (b : Bool) → Falls (up_to c xs) → All (λ y. y < x) (up_to c xs) → Falls (x ∷ cond b [] (up_to c xs))
+    go : (b : Bool) → Falls (up_to c xs) → AllByRecursion (λ y. y < x) (up_to c xs) → Falls (x ∷ cond b [] (up_to c xs))
     go true r a = (tt, tt)
     go false r a = (a, r)
 
-up_to_least : (c : ℕ) (xs : List ℕ) → Falls xs → member c xs ≡ true → All (λ y. c ≤ y) (up_to c xs)
+up_to_least : (c : ℕ) (xs : List ℕ) → Falls xs → member c xs ≡ true → AllByRecursion (λ y. c ≤ y) (up_to c xs)
 up_to_least c [] f h = tt
 up_to_least c (x ∷ xs) f h = go (eqb x c) refl (up_to_least c xs f.1)
   where
-    go : (b : Bool) → eqb x c ≡ b → (member c xs ≡ true → All (λ y. c ≤ y) (up_to c xs)) → All (λ y. c ≤ y) (x ∷ cond b [] (up_to c xs))
+    go : (b : Bool) → eqb x c ≡ b → (member c xs ≡ true → AllByRecursion (λ y. c ≤ y) (up_to c xs)) → AllByRecursion (λ y. c ≤ y) (x ∷ cond b [] (up_to c xs))
     go true e rest = let q = eqb-true x c e in (omega arith, tt)
     go false e rest =
         let m : member c xs ≡ true = ⊎_elim (λ t. let q = eqb-true c x t in absurd (false≢true (sym e ∙ eq-eqb x c (sym q)))) (λ t. t) (or_cases (eqb c x) (member c xs) h) in
@@ -99,22 +99,22 @@ up_to_least c (x ∷ xs) f h = go (eqb x c) refl (up_to_least c xs f.1)
 -- ---- the way up falls
 
 module _ (card : Card) (order : InOrder card) where
-  falls_from : (n k : ℕ) → k ≤ n → Falls (above card k) × All (λ y. y ≤ k) (above card k)
-  falls_from n zero l = subst (λ xs. Falls xs × All (λ y. y ≤ 0) xs) (sym (root_way card 0 (rises card order 0))) (tt, tt)
+  falls_from : (n k : ℕ) → k ≤ n → Falls (above card k) × AllByRecursion (λ y. y ≤ k) (above card k)
+  falls_from n zero l = subst (λ xs. Falls xs × AllByRecursion (λ y. y ≤ 0) xs) (sym (root_way card 0 (rises card order 0))) (tt, tt)
   falls_from zero (suc k) l = absurd (omega arith)
   falls_from (suc n) (suc k) l =
       let low = (rises card order (suc k)).lower (suc k) (omega arith) (omega arith) in
       go (item card (suc k)) refl (falls_from n (parent card (suc k)) (omega arith)) low
     where
-      go : (it : Item) → item card (suc k) ≡ it → Falls (above card (parent card (suc k))) × All (λ y. y ≤ parent card (suc k)) (above card (parent card (suc k))) → parent card (suc k) < suc k → Falls (above card (suc k)) × All (λ y. y ≤ suc k) (above card (suc k))
-      go root q ih low = subst (λ xs. Falls xs × All (λ y. y ≤ suc k) xs) (sym (orphan_way card (suc k) q)) (tt, tt)
+      go : (it : Item) → item card (suc k) ≡ it → Falls (above card (parent card (suc k))) × AllByRecursion (λ y. y ≤ parent card (suc k)) (above card (parent card (suc k))) → parent card (suc k) < suc k → Falls (above card (suc k)) × AllByRecursion (λ y. y ≤ suc k) (above card (suc k))
+      go root q ih low = subst (λ xs. Falls xs × AllByRecursion (λ y. y ≤ suc k) xs) (sym (orphan_way card (suc k) q)) (tt, tt)
       go (element p t attrs) q ih low =
           let way = element_way card (suc k) (rises card order (suc k)) (suc k) (parent card (suc k)) t attrs (omega arith) (omega arith) (q ∙ ap (λ j. element j t attrs) (sym (ap parent_of q))) in
           let under = All-weaker (λ y. y ≤ parent card (suc k)) (λ y. y < suc k) (λ y u. omega arith) (above card (parent card (suc k))) ih.1 in
-          subst (λ xs. Falls xs × All (λ y. y ≤ suc k) xs) (sym way) ((under, ih.0), (omega arith, All-weaker (λ y. y < suc k) (λ y. y ≤ suc k) (λ y u. omega arith) (above card (parent card (suc k))) under))
+          subst (λ xs. Falls xs × AllByRecursion (λ y. y ≤ suc k) xs) (sym way) ((under, ih.0), (omega arith, All-weaker (λ y. y < suc k) (λ y. y ≤ suc k) (λ y u. omega arith) (above card (parent card (suc k))) under))
       go (text p bytes) q ih low =
           let way = text_way card (suc k) (rises card order (suc k)) (suc k) (parent card (suc k)) bytes (omega arith) (omega arith) (q ∙ ap (λ j. text j bytes) (sym (ap parent_of q))) in
-          subst (λ xs. Falls xs × All (λ y. y ≤ suc k) xs) (sym way) (ih.0, All-weaker (λ y. y ≤ parent card (suc k)) (λ y. y ≤ suc k) (λ y u. omega arith) (above card (parent card (suc k))) ih.1)
+          subst (λ xs. Falls xs × AllByRecursion (λ y. y ≤ suc k) xs) (sym way) (ih.0, All-weaker (λ y. y ≤ parent card (suc k)) (λ y. y ≤ suc k) (λ y u. omega arith) (above card (parent card (suc k))) ih.1)
 
   -- ---- the elements around a text t of c
 

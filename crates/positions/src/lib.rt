@@ -1,4 +1,6 @@
 //! The positions and the angles of an element's characters.
+#![tactic(auto)]
+
 mod angle;
 mod layer;
 mod place;

@@ -1,4 +1,6 @@
 //! What is drawn, and along which flow: the stage that a caller asks of each number.
+#![tactic(auto)]
+
 mod asked;
 mod entry;
 mod every;

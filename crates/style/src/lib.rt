@@ -1,4 +1,6 @@
 //! The style of a text: its font, its lines, its spacing and its paint.
+#![tactic(auto)]
+
 mod font;
 mod keyword;
 mod paint;

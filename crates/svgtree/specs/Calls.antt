@@ -1,5 +1,5 @@
 -- What each call on a card answers and leaves: the first check that fails, or the one change that the call is for.
-use Rattle.std.specs.Prelude.{◌≡◌, ℕ, ◌+◌, ◌<◌, ◌≤◌, min, Bool, true, false, cond, not, List, [], ◌∷◌, length, Ok, Err, Result, ◌==◌, nat_le, nat_lt}
+use Rattle.std.specs.Prelude.{◌≡◌, ℕ, ◌+◌, ◌<◌, ◌≤◌, min, Bool, cond, not, List, [], ◌∷◌, length, Ok, Err, Result, ◌==◌, nat_le, nat_lt}
 use Rattle.names.specs.declared.AId.{AId}
 use Rattle.names.specs.declared.EId.{EId}
 use Rattle.names.specs.declared.EId.TheVariants as tag
@@ -16,7 +16,7 @@ use Rattle.card.specs.Tables as tables
 use Rattle.card.specs.Tables.{Entries, contents}
 use Rattle.build.specs.Edits.{with_element, count_element, with_text, count_text, with_attribute, count_attribute, begun_nodes, begun_counts}
 use Rattle.build.specs.Kept.{Kept}
-use Rattle.order.specs.Checks.{spelling_checked, reading, tables_checked, card_checked, draft_checked, then, SoundCard}
+use Rattle.order.specs.Checks.{spelling_checked, reading, tables_checked, draft_checked, then, SoundCard}
 use Rattle.traverse.specs.Texts.{Listed}
 use Rattle.svgtree.specs.declared.draft.Draft.{Draft}
 use Rattle.svgtree.specs.declared.sealed.Sealed.{Sealed}

@@ -1,4 +1,6 @@
 //! A caption card: built by calls or handed in ready, sealed to be read, and reopened.
+#![tactic(auto)]
+
 mod draft;
 mod room;
 mod sealed;

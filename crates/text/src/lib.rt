@@ -1,4 +1,6 @@
 //! The calls on the text of a sealed card.
+#![tactic(auto)]
+
 mod angles;
 mod element;
 

@@ -1,6 +1,6 @@
 -- The edges of a subtree are a chain: from each the links lead to the next, and from the last to none.
 use Rattle.std.proofs.Common.{◌≡◌, ℕ, zero, suc, ◌+◌, ◌<◌, ◌≤◌, true, cond, eqb, leb, List, [], ◌∷◌, ◌++◌, length, Some, None, filter, Option, sym, refl, ap, ◌∙◌, subst, ⊎_elim, arith}
-use Rattle.std.specs.List.{range_with_len, flat_map, AllByRecursion as All}
+use Rattle.std.specs.List.{range_with_len, flat_map, AllByRecursion}
 use Rattle.std.proofs.lemmas.List.{append_assoc}
 use Rattle.std.proofs.lemmas.Bool.{cases_Bool, cases_lt, true≢false, lt-leb, eq-eqb, ne_eqb, cond-true, cond-false}
 use Rattle.card.specs.declared.record.TableCounts.{TableCounts}
@@ -38,7 +38,7 @@ module _ (on : Edge → Option Edge) where
 
 -- ---- a subtree's edges, one generation on
 
-joined_same : (f g : ℕ → List Edge) (xs : List ℕ) → All (λ j. f j ≡ g j) xs → flat_map f xs ≡ flat_map g xs
+joined_same : (f g : ℕ → List Edge) (xs : List ℕ) → AllByRecursion (λ j. f j ≡ g j) xs → flat_map f xs ≡ flat_map g xs
 joined_same f g [] h = refl
 joined_same f g (x ∷ xs) h = ap (λ y. y ++ flat_map f xs) h.0 ∙ ap (λ y. g x ++ y) (joined_same f g xs h.1)
 

@@ -1,6 +1,6 @@
 -- The numbers from a on that pass a test: the first of them, and what holds of each.
 use Rattle.std.proofs.Common.{◌≡◌, ℕ, zero, suc, ◌+◌, ◌<◌, ◌≤◌, Bool, true, false, cond, ◌⊎◌, List, [], ◌∷◌, filter, sym, refl, ap, ◌∙◌, subst, inl, inr, ⊎_elim, arith}
-use Rattle.std.specs.List.{range_with_len, AllByRecursion as All}
+use Rattle.std.specs.List.{range_with_len, AllByRecursion}
 use Rattle.std.proofs.lemmas.Bool.{cases_Bool, cases_lt, cond-true, cond-false}
 
 module _ (p : ℕ → Bool) where
@@ -45,13 +45,13 @@ module _ (p : ℕ → Bool) where
           record { first = r.first; more = r.more; is = kept_skip a d f ∙ r.is; low = omega arith; high = omega arith; passes = r.passes; fails = λ j b u. skipped f j r.first r.fails b u }
 
   -- what holds of each number that passes
-  pub all_kept : (P : ℕ → Type 0) (a d : ℕ) → ((j : ℕ) → a ≤ j → j < a + d → p j ≡ true → P j) → All P (filter p (range_with_len a d))
+  pub all_kept : (P : ℕ → Type 0) (a d : ℕ) → ((j : ℕ) → a ≤ j → j < a + d → p j ≡ true → P j) → AllByRecursion P (filter p (range_with_len a d))
   all_kept P a zero h = tt
   all_kept P a (suc d) h =
       let rest = all_kept P (a + 1) d (λ j l u t. h j (omega arith) (omega arith) t) in
       ⊎_elim
-      (λ t. subst (All P) (sym (kept_here a d t)) (h a (omega arith) (omega arith) t, rest))
-      (λ f. subst (All P) (sym (kept_skip a d f)) rest)
+      (λ t. subst (AllByRecursion P) (sym (kept_here a d t)) (h a (omega arith) (omega arith) t, rest))
+      (λ f. subst (AllByRecursion P) (sym (kept_skip a d f)) rest)
       (cases_Bool (p a))
 
 -- tests that agree keep the same

@@ -1,4 +1,6 @@
 //! Ways through a card: a cursor over a subtree, and the list of all text elements.
+#![tactic(auto)]
+
 mod cursor;
 mod texts;
 

@@ -1,4 +1,6 @@
 //! Lengths and font sizes as f32, from the readings on the card.
+#![tactic(auto)]
+
 mod length;
 mod list;
 mod settings;

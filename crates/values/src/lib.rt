@@ -1,4 +1,6 @@
 //! What the attributes of a card mean: kinds of value, and one search for all of them.
+#![tactic(auto)]
+
 mod attributes;
 mod from_value;
 mod keyword;

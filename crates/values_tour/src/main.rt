@@ -1,4 +1,6 @@
 //! Prints font sizes and lengths for cards of nested elements: each line of input is a card, its words the font sizes.
+#![tactic(auto)]
+
 mod card_of_line;
 mod print;
 

@@ -6,8 +6,8 @@ use Rattle.characters.proofs.text.char_len.Goals as goal
 pub returns : goal.returns
 returns c =
     let text = c.args.text.now in
-    let b : Begun (drop c.args.at text) c.len-by-first.result = subst (Begun (drop c.args.at text)) (sym c.len-by-first.ensures) (begun_at text c.args.at c.requires.within c.requires.spelled) in
-    let d = drop-drop c.len-by-first.result c.args.at text in
+    let b : Begun (drop c.args.at text) c.len_by_first.result = subst (Begun (drop c.args.at text)) (sym c.len_by_first.ensures) (begun_at text c.args.at c.requires.within c.requires.spelled) in
+    let d = drop-drop c.len_by_first.result c.args.at text in
     record {
       some = b.some;
       within = let l = length-drop c.args.at text in let w = b.within in let p = c.requires.within in omega arith;

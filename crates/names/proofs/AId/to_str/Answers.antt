@@ -14,8 +14,8 @@ row_of : (a : AId) (rs : List (AId × Bor (List ℕ))) → shown rs ≡ spelt sp
 unfolding part
 row_of = placed enum spelling v.AlignmentBaseline (λ a. (part (tag_of the_type a / 53))) (λ a. tag_of the_type a % 53) tt
 
-pub bounds-rows-of-place : goal.bounds-rows-of-place
-bounds-rows-of-place c = let row = row_of c.args.self c.rows-of.result.now c.rows-of.ensures in omega arith
+pub bounds-rows_of-place : goal.bounds-rows_of-place
+bounds-rows_of-place c = let row = row_of c.args.self c.rows_of.result.now c.rows_of.ensures in omega arith
 
 pub returns : goal.returns
-returns c = let row = row_of c.args.self c.rows-of.result.now c.rows-of.ensures in simp row.1
+returns c = let row = row_of c.args.self c.rows_of.result.now c.rows_of.ensures in simp row.1

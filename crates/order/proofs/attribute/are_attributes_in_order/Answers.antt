@@ -4,14 +4,14 @@ use Rattle.card.specs.TableOrder.{attribute_in_order}
 use Rattle.card.proofs.Each.{one_fails, one_passes, all_passed}
 use Rattle.order.proofs.attribute.are_attributes_in_order.Goals as goal
 
-pub returns-then-not-is-attribute-in-order : goal.returns-then-not-is-attribute-in-order
-returns-then-not-is-attribute-in-order c =
-    sym (one_fails (attribute_in_order (entries c.args.tables) c.args.counts) (run_in c.args.run c.args.tables.attributes.now) c.loop-attribute.attribute-index blank_attribute c.loop-attribute-test.true (sym c.if-not-is-attribute-in-order.ensures))
+pub returns-then-not-is_attribute_in_order : goal.returns-then-not-is_attribute_in_order
+returns-then-not-is_attribute_in_order c =
+    sym (one_fails (attribute_in_order (entries c.args.tables) c.args.counts) (run_in c.args.run c.args.tables.attributes.now) c.loop-attribute.attribute-index blank_attribute c.loop-attribute-test.true (sym c.if-not-is_attribute_in_order.ensures))
     ∙ c.loop-attribute.invariant
 
 pub loop-attribute-preserved : goal.loop-attribute-preserved
 loop-attribute-preserved c =
-    one_passes (attribute_in_order (entries c.args.tables) c.args.counts) (run_in c.args.run c.args.tables.attributes.now) c.loop-attribute.attribute-index blank_attribute c.loop-attribute-test.true (sym c.if-not-is-attribute-in-order.ensures)
+    one_passes (attribute_in_order (entries c.args.tables) c.args.counts) (run_in c.args.run c.args.tables.attributes.now) c.loop-attribute.attribute-index blank_attribute c.loop-attribute-test.true (sym c.if-not-is_attribute_in_order.ensures)
     ∙ c.loop-attribute.invariant
 
 pub returns : goal.returns

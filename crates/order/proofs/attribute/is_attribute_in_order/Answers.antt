@@ -2,13 +2,13 @@ use Rattle.std.proofs.Common.{rules}
 use Rattle.card.specs.TableOrder.{attribute_in_order}
 use Rattle.order.proofs.attribute.is_attribute_in_order.Goals as goal
 
-pub returns-then-not-is-in-use : goal.returns-then-not-is-in-use
+pub returns-then-not-is_in_use : goal.returns-then-not-is_in_use
 unfolding attribute_in_order
-returns-then-not-is-in-use c = search rules
+returns-then-not-is_in_use c = search rules
 
-pub returns-then-not-is-utf8 : goal.returns-then-not-is-utf8
+pub returns-then-not-is_utf8 : goal.returns-then-not-is_utf8
 unfolding attribute_in_order
-returns-then-not-is-utf8 c = search rules
+returns-then-not-is_utf8 c = search rules
 
 pub returns : goal.returns
 unfolding attribute_in_order

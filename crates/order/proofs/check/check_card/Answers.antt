@@ -4,18 +4,18 @@ use Rattle.card.proofs.Checked.{none_out}
 use Rattle.order.specs.Checks.{card_checked}
 use Rattle.order.proofs.check.check_card.Goals as goal
 
-pub returns-in-err-check-tables : goal.returns-in-err-check-tables
+pub returns-in_err-check_tables : goal.returns-in_err-check_tables
 unfolding card_checked
-returns-in-err-check-tables c = search rules
+returns-in_err-check_tables c = search rules
 
 pub returns-in-None : goal.returns-in-None
 unfolding card_checked
 returns-in-None c =
     record {
-      the-first-check-that-fails = search rules;
+      the_first_check_that_fails = search rules;
       sound = record {
-        whole = c.in-ok-check-tables.ensures.whole;
-        order = none_out (entries c.args.tables) c.args.counts (sym c.in-None.ensures.the-lowest-node-out-of-order);
+        whole = c.in_ok-check_tables.ensures.whole;
+        order = none_out (entries c.args.tables) c.args.counts (sym c.in-None.ensures.the_lowest_node_out_of_order);
       };
     }
 

@@ -1,15 +1,15 @@
-use Rattle.std.proofs.Common.{◌≡◌, ◌+◌, ◌<◌, ◌≤◌, true, false, length, sym, refl, ap, ◌∙◌, subst, arith}
+use Rattle.std.proofs.Common.{◌≡◌, ◌≤◌, true, false, length, sym, ap, ◌∙◌, arith}
 use Rattle.card.specs.Contents.{above}
 use Rattle.card.specs.Tables.{entries, contents}
 use Rattle.order.proofs.Ways.{in_table, no_end, lower, deeper_by, at_root}
 use Rattle.order.proofs.climb.depth.Goals as goal
-use Rattle.order.proofs.climb.depth.Goals.{then-is-element, else-is-element}
+use Rattle.order.proofs.climb.depth.Goals.{then-is_element, else-is_element}
 
 pub bounds-tables-at : goal.bounds-tables-at
 bounds-tables-at c = in_table (entries c.args.tables) c.args.counts c.requires.whole c.args.from c.requires.sound c.loop-at.at (let h = c.loop-at.invariant.0 in omega arith)
 
-pub returns-in-default : goal.returns-in-default
-returns-in-default c = absurd (no_end (entries c.args.tables) c.args.counts c.requires.whole c.args.from c.requires.sound c.loop-at.at c.loop-at-test.true (let h = c.loop-at.invariant.0 in omega arith) c.in-default.is)
+pub returns-in_default : goal.returns-in_default
+returns-in_default c = absurd (no_end (entries c.args.tables) c.args.counts c.requires.whole c.args.from c.requires.sound c.loop-at.at c.loop-at-test.true (let h = c.loop-at.invariant.0 in omega arith) c.in_default.is)
 
 pub loop-at-smaller : goal.loop-at-smaller
 loop-at-smaller c = lower (entries c.args.tables) c.args.counts c.requires.whole c.args.from c.requires.sound c.loop-at.at c.in-Some.parent c.loop-at-test.true (let h = c.loop-at.invariant.0 in omega arith) c.in-Some.is
@@ -19,21 +19,21 @@ loop-at-preserved c =
     let kept = c.loop-at.invariant.0 in
     let here : c.loop-at.at ≤ c.args.from = omega arith in
     let less = lower (entries c.args.tables) c.args.counts c.requires.whole c.args.from c.requires.sound c.loop-at.at c.in-Some.parent c.loop-at-test.true here c.in-Some.is in
-    elim c.if-is-element.branch [
-      | then-is-element w ↦
+    elim c.if-is_element.branch [
+      | then-is_element w ↦
           let more = w.elements-is in (
             omega arith,
             λ counts h s.
                 let so = c.loop-at.invariant.1 counts h s in
-                let d = deeper_by (entries c.args.tables) counts h c.args.from s true c.loop-at.at c.in-Some.parent c.loop-at-test.true here c.in-Some.is (sym c.is_element.ensures ∙ w.if-is-element.true) in
+                let d = deeper_by (entries c.args.tables) counts h c.args.from s true c.loop-at.at c.in-Some.parent c.loop-at-test.true here c.in-Some.is (sym c.is_element.ensures ∙ w.if-is_element.true) in
                 omega arith,
           )
-      | else-is-element w ↦
+      | else-is_element w ↦
           let more = w.elements-is in (
             omega arith,
             λ counts h s.
                 let so = c.loop-at.invariant.1 counts h s in
-                let d = deeper_by (entries c.args.tables) counts h c.args.from s false c.loop-at.at c.in-Some.parent c.loop-at-test.true here c.in-Some.is (sym c.is_element.ensures ∙ w.if-is-element.false) in
+                let d = deeper_by (entries c.args.tables) counts h c.args.from s false c.loop-at.at c.in-Some.parent c.loop-at-test.true here c.in-Some.is (sym c.is_element.ensures ∙ w.if-is_element.false) in
                 omega arith,
           )
     ]

@@ -1,4 +1,4 @@
-use Rattle.std.proofs.Common.{◌≡◌, ◌<◌, eqb, sym, refl, ap, ◌∙◌, subst, arith}
+use Rattle.std.proofs.Common.{◌<◌, sym, refl, ap, ◌∙◌, arith}
 use Rattle.std.proofs.lemmas.Bool.{ne_eqb}
 use Rattle.card.specs.Lists.{member}
 use Rattle.card.specs.Contents.{above}
@@ -12,8 +12,8 @@ loop-at-init c = (omega arith, λ counts w s. refl)
 pub bounds-tables-at : goal.bounds-tables-at
 bounds-tables-at c = in_table (entries c.args.tables) c.args.counts c.requires.whole c.args.from c.requires.sound c.loop-at.at c.loop-at.invariant.0
 
-pub returns-in-default : goal.returns-in-default
-returns-in-default c = absurd (no_end (entries c.args.tables) c.args.counts c.requires.whole c.args.from c.requires.sound c.loop-at.at (omega arith) c.loop-at.invariant.0 c.in-default.is)
+pub returns-in_default : goal.returns-in_default
+returns-in_default c = absurd (no_end (entries c.args.tables) c.args.counts c.requires.whole c.args.from c.requires.sound c.loop-at.at (omega arith) c.loop-at.invariant.0 c.in_default.is)
 
 pub loop-at-smaller : goal.loop-at-smaller
 loop-at-smaller c = lower (entries c.args.tables) c.args.counts c.requires.whole c.args.from c.requires.sound c.loop-at.at c.in-Some.parent (omega arith) c.loop-at.invariant.0 c.in-Some.is

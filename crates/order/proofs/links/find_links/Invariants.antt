@@ -1,4 +1,3 @@
-use Rattle.std.proofs.Common.{◌≤◌, length}
 use Rattle.card.specs.Tables.{entries}
 use Rattle.order.specs.Links.{Expected}
 use Rattle.order.proofs.links.find_links.Given as goal

@@ -1,4 +1,4 @@
-use Rattle.std.proofs.Common.{◌≡◌, ◌-◌, ◌≤◌, not, ◌&&◌, eqb, sym, ap, ◌∙◌, arith}
+use Rattle.std.proofs.Common.{◌-◌, ◌≤◌, not, ◌&&◌, eqb, sym, ap, ◌∙◌, arith}
 use Rattle.std.proofs.lemmas.Bool.{eq-eqb}
 use Rattle.card.specs.Lists.{member}
 use Rattle.card.specs.Contents.{above}
@@ -9,29 +9,29 @@ use Rattle.order.proofs.node.is_placed.Goals as goal
 
 pub returns-then-k-eq0 : goal.returns-then-k-eq0
 returns-then-k-eq0 c =
-    let law = place_rootless (entries c.args.tables) c.args.counts c.requires.whole c.args.k c.requires.present c.in-default.is in
+    let law = place_rootless (entries c.args.tables) c.args.counts c.requires.whole c.args.k c.requires.present c.in_default.is in
     c.is_root.ensures ∙ sym (law ∙ ap (λ b. b && is_root_kind (node (entries c.args.tables) c.args.k).kind) (eq-eqb c.args.k 0 c.if-k-eq0.true))
 
-pub returns-then-is-svg-element : goal.returns-then-is-svg-element
-returns-then-is-svg-element c =
+pub returns-then-is_svg_element : goal.returns-then-is_svg_element
+returns-then-is_svg_element c =
     let law = place_second (entries c.args.tables) c.args.counts c.requires.whole c.in-Some.parent c.args.k (omega arith) c.requires.present c.in-Some.is in
-    sym (law ∙ ap (λ b. b && eqb c.in-Some.parent 0) (sym c.is-svg-element.ensures ∙ c.if-is-svg-element.true))
+    sym (law ∙ ap (λ b. b && eqb c.in-Some.parent 0) (sym c.is_svg_element.ensures ∙ c.if-is_svg_element.true))
 
-pub returns-else-is-svg-element : goal.returns-else-is-svg-element
-returns-else-is-svg-element c =
+pub returns-else-is_svg_element : goal.returns-else-is_svg_element
+returns-else-is_svg_element c =
     let law = place_second (entries c.args.tables) c.args.counts c.requires.whole c.in-Some.parent c.args.k (omega arith) c.requires.present c.in-Some.is in
-    c.if-is-svg-element.false ∙ sym (law ∙ ap (λ b. b && eqb c.in-Some.parent 0) (sym c.is-svg-element.ensures ∙ c.if-is-svg-element.false))
+    c.if-is_svg_element.false ∙ sym (law ∙ ap (λ b. b && eqb c.in-Some.parent 0) (sym c.is_svg_element.ensures ∙ c.if-is_svg_element.false))
 
-pub returns-then-not-is-root : goal.returns-then-not-is-root
-returns-then-not-is-root c =
+pub returns-then-not-is_root : goal.returns-then-not-is_root
+returns-then-not-is_root c =
     let two : 2 ≤ c.args.k = omega arith in
     let law = place_later (entries c.args.tables) c.args.counts c.requires.whole c.in-Some.parent c.args.k two c.requires.present c.in-Some.is in
-    c.lies-above.ensures
-    ∙ sym (law ∙ ap (λ b. not b && member c.in-Some.parent (above (contents (entries c.args.tables) c.args.counts) (c.args.k - 1))) (sym c.is-root-in-default-k.ensures ∙ c.if-not-is-root.true))
+    c.lies_above.ensures
+    ∙ sym (law ∙ ap (λ b. not b && member c.in-Some.parent (above (contents (entries c.args.tables) c.args.counts) (c.args.k - 1))) (sym c.is_root-in_default-k.ensures ∙ c.if-not-is_root.true))
 
-pub returns-else-not-is-root : goal.returns-else-not-is-root
-returns-else-not-is-root c =
+pub returns-else-not-is_root : goal.returns-else-not-is_root
+returns-else-not-is_root c =
     let two : 2 ≤ c.args.k = omega arith in
     let law = place_later (entries c.args.tables) c.args.counts c.requires.whole c.in-Some.parent c.args.k two c.requires.present c.in-Some.is in
-    ap not c.if-not-is-root.false
-    ∙ sym (law ∙ ap (λ b. not b && member c.in-Some.parent (above (contents (entries c.args.tables) c.args.counts) (c.args.k - 1))) (sym c.is-root-in-default-k.ensures ∙ c.if-not-is-root.false))
+    ap not c.if-not-is_root.false
+    ∙ sym (law ∙ ap (λ b. not b && member c.in-Some.parent (above (contents (entries c.args.tables) c.args.counts) (c.args.k - 1))) (sym c.is_root-in_default-k.ensures ∙ c.if-not-is_root.false))

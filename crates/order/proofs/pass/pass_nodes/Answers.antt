@@ -1,4 +1,4 @@
-use Rattle.std.proofs.Common.{◌≡◌, ◌<◌, max, Some, sym, ap, ◌∙◌, subst, arith}
+use Rattle.std.proofs.Common.{◌≡◌, ◌<◌, Some, sym, ap, ◌∙◌, subst, arith}
 use Rattle.card.specs.Tables.{entries, node}
 use Rattle.card.specs.TableOrder.{same_link, end_by, SoundBelow}
 use Rattle.card.proofs.Checked.{facts, all_in, first_out}
@@ -19,11 +19,11 @@ judge-requires c =
       room = c.requires.room;
       depths = c.loop-k.invariant.1;
       ended = c.loop-k.invariant.2;
-      closes = c.is-same-closes.ensures ∙ ap (λ o. same_link o (Some c.loop-k.k)) c.find-last-element-closing.ensures;
+      closes = c.is_same-closes.ensures ∙ ap (λ o. same_link o (Some c.loop-k.k)) c.find_last_element-closing.ensures;
     }
 
-pub returns-in-default : goal.returns-in-default
-returns-in-default c = sym (first_out (entries c.args.tables) c.args.counts c.loop-k.k (let l = c.loop-k-test.true in omega arith) c.in-default.ensures c.loop-k.invariant.0)
+pub returns-in_default : goal.returns-in_default
+returns-in_default c = sym (first_out (entries c.args.tables) c.args.counts c.loop-k.k (let l = c.loop-k-test.true in omega arith) c.in_default.ensures c.loop-k.invariant.0)
 
 pub loop-k-preserved : goal.loop-k-preserved
 loop-k-preserved c =
@@ -31,7 +31,7 @@ loop-k-preserved c =
     let few : c.loop-k.k < 4096 = let l = c.loop-k-test.true in let f = c.requires.whole.nodes_few in omega arith in (
       sound_more (entries c.args.tables) c.args.counts c.loop-k.k c.loop-k.invariant.0 judged.0,
       depths_more (entries c.args.tables) c.args.counts c.loop-k.k c.in-Some.depth c.loop-k.depths few c.loop-k.invariant.1 judged.1,
-      c.end-after-ended.ensures ∙ ap (end_by (node (entries c.args.tables) c.loop-k.k).kind) c.loop-k.invariant.2 ∙ end_more (entries c.args.tables) c.loop-k.k,
+      c.end_after-ended.ensures ∙ ap (end_by (node (entries c.args.tables) c.loop-k.k).kind) c.loop-k.invariant.2 ∙ end_more (entries c.args.tables) c.loop-k.k,
     )
 
 pub returns-then-counts-lt2 : goal.returns-then-counts-lt2

@@ -1,4 +1,3 @@
-use Rattle.std.proofs.Common.{sym}
 use Rattle.card.proofs.Spelling.{spelled, misspelled, valid_start_is}
 use Rattle.order.proofs.value.check_spelling.Goals as goal
 
@@ -8,4 +7,4 @@ returns-in-Ok c = simp (spelled c.args.bytes.now c.in-Ok.ensures.cases.1)
 pub returns-in-Err : goal.returns-in-Err
 returns-in-Err c =
     let told = c.in-Err.ensures.cases in
-    simp (misspelled c.args.bytes.now told.0, valid_start_is c.args.bytes.now _ told.1, c.valid-up-to.ensures)
+    simp (misspelled c.args.bytes.now told.0, valid_start_is c.args.bytes.now _ told.1, c.valid_up_to.ensures)

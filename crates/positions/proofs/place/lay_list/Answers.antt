@@ -23,7 +23,7 @@ returns-after-loop-i c =
     (λ j p. ap (put c.args.axis p) (ap (bound (λ xs. slice_get xs j)) (c.in-Some.ensures ∙ ap (list_of c.args.settings.now (card_of c.args.doc) c.args.e) c.name.ensures)))
     (partly_all _ c.loop-i.i c.args.part.now c.loop-i.part (omega arith) c.loop-i.invariant)
 
-pub returns-in-default : goal.returns-in-default
-returns-in-default c =
+pub returns-in_default : goal.returns-in_default
+returns-in_default c =
     each_same _ c.args.part.now
-    (λ j p. ap (put c.args.axis p) (ap (bound (λ xs. slice_get xs j)) (sym (c.in-default.ensures ∙ ap (list_of c.args.settings.now (card_of c.args.doc) c.args.e) c.name.ensures))) ∙ put_none c.args.axis p)
+    (λ j p. ap (put c.args.axis p) (ap (bound (λ xs. slice_get xs j)) (sym (c.in_default.ensures ∙ ap (list_of c.args.settings.now (card_of c.args.doc) c.args.e) c.name.ensures))) ∙ put_none c.args.axis p)

@@ -4,10 +4,10 @@ use Rattle.characters.proofs.Subtree.{element_within}
 use Rattle.positions.proofs.Filling.{positions_filled}
 use Rattle.positions.proofs.place.resolve_positions_list.Goals as goal
 
-pub count-chars-below-count-requires : goal.count-chars-below-count-requires
-count-chars-below-count-requires c =
+pub count_chars_below-count-requires : goal.count_chars_below-count-requires
+count_chars_below-count-requires c =
     let w = element_within (card_of c.args.doc) (in_order_of c.args.doc) c.args.c c.requires.element in
     record { later = w.0; node = w.1 }
 
 pub returns : goal.returns
-returns c = positions_filled c.args.settings.now (card_of c.args.doc) c.args.c c.count-chars-below-count.result c.args.table.now c.clear.new.table c.lay-all.new.table c.count-chars-below-count.ensures c.requires.room c.clear.ensures c.lay-all.ensures
+returns c = positions_filled c.args.settings.now (card_of c.args.doc) c.args.c c.count_chars_below-count.result c.args.table.now c.clear.new.table c.lay_all.new.table c.count_chars_below-count.ensures c.requires.room c.clear.ensures c.lay_all.ensures

@@ -1,4 +1,4 @@
 use Rattle.style.proofs.font.+resolve_font_weight.Given as goal
 
-abbrev pub decreases-resolve-font-weight : goal.decreases-resolve-font-weight
-decreases-resolve-font-weight l = l.k
+abbrev pub decreases-resolve_font_weight : goal.decreases-resolve_font_weight
+decreases-resolve_font_weight l = l.k

@@ -4,10 +4,10 @@ use Rattle.style.proofs.spacing.text_length.Goals as goal
 
 pub returns-then-n : goal.returns-then-n
 returns-then-n c =
-    below_nought c.convert-length-n.result c.if-n.true
-    ∙ long_some c.args.settings.now _ c.args.k c.in-ok-length.length _ _ c.in-ok-length.ensures c.resolve-font-size-size.ensures c.convert-length-n.ensures.answer
+    below_nought c.convert_length-n.result c.if-n.true
+    ∙ long_some c.args.settings.now _ c.args.k c.in_ok-length.length _ _ c.in_ok-length.ensures c.resolve_font_size-size.ensures c.convert_length-n.ensures.answer
 
 pub returns-else-n : goal.returns-else-n
 returns-else-n c =
-    from_nought c.convert-length-n.result c.if-n.false
-    ∙ long_some c.args.settings.now _ c.args.k c.in-ok-length.length _ _ c.in-ok-length.ensures c.resolve-font-size-size.ensures c.convert-length-n.ensures.answer
+    from_nought c.convert_length-n.result c.if-n.false
+    ∙ long_some c.args.settings.now _ c.args.k c.in_ok-length.length _ _ c.in_ok-length.ensures c.resolve_font_size-size.ensures c.convert_length-n.ensures.answer

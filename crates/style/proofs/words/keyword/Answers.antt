@@ -8,12 +8,12 @@ use Rattle.std.proofs.lemmas.Bool.Decides.{Decides-eqb}
 
 pub returns-then-eq : goal.returns-then-eq
 returns-then-eq g c =
-    sym (row_here c.args.words.now c.loop-word.word-index c.args.value.now c.word-item.result c.loop-word-test.true c.word-item.is (sym c.as-bytes.ensures.value ∙ (slice_eq-Decides Decides-eqb _ _ _ c.eq.ensures).0 c.if-eq.true))
+    sym (row_here c.args.words.now c.loop-word.word-index c.args.value.now c.word-item.result c.loop-word-test.true c.word-item.is (sym c.as_bytes.ensures.value ∙ (slice_eq-Decides Decides-eqb _ _ _ c.eq.ensures).0 c.if-eq.true))
     ∙ c.loop-word.invariant
 
 pub loop-word-preserved : goal.loop-word-preserved
 loop-word-preserved g c =
-    sym (row_on c.args.words.now c.loop-word.word-index c.args.value.now c.word-item.result c.loop-word-test.true c.word-item.is (λ same. both_ways _ c.if-eq.false ((slice_eq-Decides Decides-eqb _ _ _ c.eq.ensures).1 (c.as-bytes.ensures.value ∙ same))))
+    sym (row_on c.args.words.now c.loop-word.word-index c.args.value.now c.word-item.result c.loop-word-test.true c.word-item.is (λ same. both_ways _ c.if-eq.false ((slice_eq-Decides Decides-eqb _ _ _ c.eq.ensures).1 (c.as_bytes.ensures.value ∙ same))))
     ∙ c.loop-word.invariant
 
 pub returns : goal.returns

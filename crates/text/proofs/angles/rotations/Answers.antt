@@ -18,37 +18,37 @@ use Rattle.text.proofs.angles.rotations.Goals as goal
 abbrev with_angles : List Float → Result ℕ Fault → Answered
 with_angles before r = (r, before)
 
-pub returns-in-err-check-card : goal.returns-in-err-check-card
-returns-in-err-check-card c =
+pub returns-in_err-check_card : goal.returns-in_err-check_card
+returns-in_err-check_card c =
     let e = entries c.args.tables in
     let before = c.args.angles.now in
     let p = err_from_is_err_and c.from-residual.result c.from-residual.ensures.1 in
     record {
-      answer-and-angles =
+      answer_and_angles =
           ap (with_angles before) (p.1 ∙ ap {B = Result ℕ Fault} (λ f. Err f) p.2)
-          ∙ rotated_unchecked e c.counts-counts.result c.args.element before c.in-err-check-card.field-0.0 c.in-err-check-card.ensures.the-first-check-that-fails
+          ∙ rotated_unchecked e c.counts-counts.result c.args.element before c.in_err-check_card.field-0.0 c.in_err-check_card.ensures.the_first_check_that_fails
           ∙ ap (λ n. rotated e n c.args.element before) c.counts-counts.ensures;
-      a-refusal-changes-nothing = kept before c.from-residual.result;
+      a_refusal_changes_nothing = kept before c.from-residual.result;
     }
 
-pub returns-in-err-check-text-element : goal.returns-in-err-check-text-element
-returns-in-err-check-text-element c =
+pub returns-in_err-check_text_element : goal.returns-in_err-check_text_element
+returns-in_err-check_text_element c =
     let e = entries c.args.tables in
     let before = c.args.angles.now in
-    let out = c.from-residual-in-err-check-text-element in
+    let out = c.from-residual-in_err-check_text_element in
     let p = err_from_is_err_and out.result out.ensures.1 in
     record {
-      answer-and-angles =
+      answer_and_angles =
           ap (with_angles before) (p.1 ∙ ap {B = Result ℕ Fault} (λ f. Err f) p.2)
-          ∙ rotated_no_text e c.counts-counts.result c.args.element before c.in-err-check-text-element.field-0.0 c.in-ok-check-card.ensures.the-first-check-that-fails
-          (c.in-err-check-text-element.ensures ∙ ap (λ card. text_checked card c.args.element) c.new-doc.ensures)
+          ∙ rotated_no_text e c.counts-counts.result c.args.element before c.in_err-check_text_element.field-0.0 c.in_ok-check_card.ensures.the_first_check_that_fails
+          (c.in_err-check_text_element.ensures ∙ ap (λ card. text_checked card c.args.element) c.new-doc.ensures)
           ∙ ap (λ n. rotated e n c.args.element before) c.counts-counts.ensures;
-      a-refusal-changes-nothing = kept before out.result;
+      a_refusal_changes_nothing = kept before out.result;
     }
 
-pub count-chars-below-count-requires : goal.count-chars-below-count-requires
-count-chars-below-count-requires c =
-    let w = element_within (card_of c.new-doc.result) (in_order_of c.new-doc.result) c.args.element (text_element (card_of c.new-doc.result) c.args.element c.in-ok-check-text-element.ensures) in
+pub count_chars_below-count-requires : goal.count_chars_below-count-requires
+count_chars_below-count-requires c =
+    let w = element_within (card_of c.new-doc.result) (in_order_of c.new-doc.result) c.args.element (text_element (card_of c.new-doc.result) c.args.element c.in_ok-check_text_element.ensures) in
     record { later = w.0; node = w.1 }
 
 pub returns-then-angles-count : goal.returns-then-angles-count
@@ -56,14 +56,14 @@ returns-then-angles-count c =
     let e = entries c.args.tables in
     let before = c.args.angles.now in
     record {
-      answer-and-angles =
-          rotated_short e c.counts-counts.result c.args.element before c.count-chars-below-count.result
-          c.in-ok-check-card.ensures.the-first-check-that-fails
-          (c.in-ok-check-text-element.ensures ∙ ap (λ card. text_checked card c.args.element) c.new-doc.ensures)
-          (c.count-chars-below-count.ensures ∙ ap (λ card. length (characters card c.args.element)) c.new-doc.ensures)
+      answer_and_angles =
+          rotated_short e c.counts-counts.result c.args.element before c.count_chars_below-count.result
+          c.in_ok-check_card.ensures.the_first_check_that_fails
+          (c.in_ok-check_text_element.ensures ∙ ap (λ card. text_checked card c.args.element) c.new-doc.ensures)
+          (c.count_chars_below-count.ensures ∙ ap (λ card. length (characters card c.args.element)) c.new-doc.ensures)
           c.if-angles-count.true
           ∙ ap (λ n. rotated e n c.args.element before) c.counts-counts.ensures;
-      a-refusal-changes-nothing = refl;
+      a_refusal_changes_nothing = refl;
     }
 
 pub returns : goal.returns
@@ -71,13 +71,13 @@ returns c =
     let e = entries c.args.tables in
     let before = c.args.angles.now in
     record {
-      answer-and-angles =
-          rotated_done e c.counts-counts.result c.args.element before c.count-chars-below-count.result c.resolve-rotate-list.new.table
-          c.in-ok-check-card.ensures.the-first-check-that-fails
-          (c.in-ok-check-text-element.ensures ∙ ap (λ card. text_checked card c.args.element) c.new-doc.ensures)
-          (c.count-chars-below-count.ensures ∙ ap (λ card. length (characters card c.args.element)) c.new-doc.ensures)
+      answer_and_angles =
+          rotated_done e c.counts-counts.result c.args.element before c.count_chars_below-count.result c.resolve_rotate_list.new.table
+          c.in_ok-check_card.ensures.the_first_check_that_fails
+          (c.in_ok-check_text_element.ensures ∙ ap (λ card. text_checked card c.args.element) c.new-doc.ensures)
+          (c.count_chars_below-count.ensures ∙ ap (λ card. length (characters card c.args.element)) c.new-doc.ensures)
           c.if-angles-count.false
-          (c.resolve-rotate-list.ensures ∙ ap (λ card. filled before (angles card c.args.element)) c.new-doc.ensures)
+          (c.resolve_rotate_list.ensures ∙ ap (λ card. filled before (angles card c.args.element)) c.new-doc.ensures)
           ∙ ap (λ n. rotated e n c.args.element before) c.counts-counts.ensures;
-      a-refusal-changes-nothing = tt;
+      a_refusal_changes_nothing = tt;
     }

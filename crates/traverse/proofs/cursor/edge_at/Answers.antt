@@ -10,4 +10,4 @@ pub loop-preserved : goal.loop-preserved
 loop-preserved c = let m = moved_more c.args.nodes.now c.loop.counter (begun c.args.start) in search rules
 
 pub returns : goal.returns
-returns c = record { steps = search rules; visits-exactly-the-subtree = visits _ _ _ _ (search rules) }
+returns c = record { steps = search rules; visits_exactly_the_subtree = visits _ _ _ _ (search rules) }

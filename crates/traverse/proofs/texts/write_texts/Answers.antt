@@ -2,7 +2,7 @@ use Rattle.std.proofs.Common.{◌+◌, arith, rules}
 use Rattle.traverse.proofs.Listing.{texts_none, texts_here, texts_skip, length_here, texts_upto, written_more}
 use Rattle.traverse.specs.Texts.{text_elements}
 use Rattle.traverse.proofs.texts.write_texts.Goals as goal
-use Rattle.traverse.proofs.texts.write_texts.Goals.{then-is-text-element, else-is-text-element}
+use Rattle.traverse.proofs.texts.write_texts.Goals.{then-is_text_element, else-is_text_element}
 
 pub loop-k-init : goal.loop-k-init
 loop-k-init c = let e = texts_none c.args.nodes.now in search rules
@@ -15,12 +15,12 @@ bounds-list-written c =
 
 pub loop-k-preserved : goal.loop-k-preserved
 loop-k-preserved c =
-    elim c.if-is-text-element.branch [
-      | then-is-text-element w ↦
+    elim c.if-is_text_element.branch [
+      | then-is_text_element w ↦
           let e = texts_here c.args.nodes.now c.loop-k.k (search rules) in
           let h = length_here c.args.nodes.now c.loop-k.k (search rules) in
           let u = texts_upto c.args.nodes.now (c.loop-k.k + 1) c.args.count (omega arith) in
           let s = written_more (text_elements c.args.nodes.now c.loop-k.k) c.args.list.now c.loop-k.written c.loop-k.k c.loop-k.invariant.0 (omega arith) in
           search rules
-      | else-is-text-element w ↦ let e = texts_skip c.args.nodes.now c.loop-k.k (search rules) in search rules
+      | else-is_text_element w ↦ let e = texts_skip c.args.nodes.now c.loop-k.k (search rules) in search rules
     ]

@@ -5,6 +5,6 @@ use Rattle.units.proofs.list.measure.Goals as goal
 
 pub returns : goal.returns
 returns c =
-    c.convert-length.ensures.answer
-    ∙ (λ i. length_of c.args.settings.now (c.resolve-font-size-size.ensures i) (c.percent-base.ensures i) c.args.length)
+    c.convert_length.ensures.answer
+    ∙ (λ i. length_of c.args.settings.now (c.resolve_font_size-size.ensures i) (c.percent_base.ensures i) c.args.length)
     ∙ measured_is _ _ c.args.k c.args.name c.args.length

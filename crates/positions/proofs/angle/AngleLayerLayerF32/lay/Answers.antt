@@ -10,8 +10,8 @@ loop-i-init c = partly_none _ c.args.part.now
 
 pub loop-i-preserved : goal.loop-i-preserved
 loop-i-preserved c =
-    partly_more _ c.loop-i.i c.args.part.now c.loop-i.part c.unwrap-or.result nan (omega arith)
-    (c.unwrap-or.ensures ∙ ap (λ o. unwrap_or o (get_or c.loop-i.part c.loop-i.i nan)) c.at_or_last.ensures)
+    partly_more _ c.loop-i.i c.args.part.now c.loop-i.part c.unwrap_or.result nan (omega arith)
+    (c.unwrap_or.ensures ∙ ap (λ o. unwrap_or o (get_or c.loop-i.part c.loop-i.i nan)) c.at_or_last.ensures)
     c.loop-i.invariant
 
 pub returns-after-loop-i : goal.returns-after-loop-i

@@ -8,7 +8,7 @@ use Rattle.svgtree.proofs.draft.Draft.begin.Goals as goal
 pub returns : goal.returns
 returns c =
     record {
-      answer-and-tables = search rules;
-      a-refusal-changes-nothing = tt;
-      a-card-just-begun-is-in-order = λ others. kept_at _ _ _ _ _ _ _ _ _ _ _ _ c.begin-nodes.ensures refl refl refl refl (begun (lent c.args.nodes.now others.attributes others.bytes others.lengths) (omega arith));
+      answer_and_tables = search rules;
+      a_refusal_changes_nothing = tt;
+      a_card_just_begun_is_in_order = λ others. kept_at _ _ _ _ _ _ _ _ _ _ _ _ c.begin_nodes.ensures refl refl refl refl (begun (lent c.args.nodes.now others.attributes others.bytes others.lengths) (omega arith));
     }

@@ -6,19 +6,19 @@ use Rattle.svgtree.proofs.Leaving.{kept_at}
 use Rattle.svgtree.proofs.Standing.{open_before, last_before}
 use Rattle.svgtree.proofs.draft.Draft.open.Goals as goal
 
-pub add-node-requires : goal.add-node-requires
-add-node-requires c =
+pub add_node-requires : goal.add_node-requires
+add_node-requires c =
     let tables = (lent c.args.nodes.now c.args.attributes.now c.args.bytes.now c.args.lengths.now) in
-    let sound = c.in-ok-check-draft.ensures.sound in
-    (open_before tables c.args.self.now.counts c.args.self.now.open sound, (c.in-ok-check-opening.ensures.fits.0, last_before tables c.args.self.now.counts c.args.self.now.open sound))
+    let sound = c.in_ok-check_draft.ensures.sound in
+    (open_before tables c.args.self.now.counts c.args.self.now.open sound, (c.in_ok-check_opening.ensures.fits.0, last_before tables c.args.self.now.counts c.args.self.now.open sound))
 
 pub returns : goal.returns
 returns c =
     record {
-      answer-and-tables = search rules;
-      a-refusal-changes-nothing = tt;
-      one-element-more =
-          let sound = c.in-ok-check-draft.ensures.sound in
-          let fits = c.in-ok-check-opening.ensures.fits in
-          kept_at _ _ _ _ _ _ _ _ _ _ _ _ c.add-node.ensures refl refl refl refl (element_more (lent c.args.nodes.now c.args.attributes.now c.args.bytes.now c.args.lengths.now) c.args.self.now.counts sound.whole sound.order c.args.self.now.open sound.inside fits.0 fits.1 c.args.tag fits.2);
+      answer_and_tables = search rules;
+      a_refusal_changes_nothing = tt;
+      one_element_more =
+          let sound = c.in_ok-check_draft.ensures.sound in
+          let fits = c.in_ok-check_opening.ensures.fits in
+          kept_at _ _ _ _ _ _ _ _ _ _ _ _ c.add_node.ensures refl refl refl refl (element_more (lent c.args.nodes.now c.args.attributes.now c.args.bytes.now c.args.lengths.now) c.args.self.now.counts sound.whole sound.order c.args.self.now.open sound.inside fits.0 fits.1 c.args.tag fits.2);
     }

@@ -8,13 +8,13 @@ pub returns : goal.returns
 returns c =
     record {
       answer = search rules;
-      the-contents-stay = refl;
-      a-card-in-order-stays-in-order = λ o.
+      the_contents_stay = refl;
+      a_card_in_order_stays_in_order = λ o.
           let two = o.two in
           record {
             contents = refl;
             order = o;
             inside = svg_above (contents (entries c.args.tables) c.args.self.counts) (c.args.self.counts.nodes - 1) (λ j l. (o.each j (omega arith)).place) (c.args.self.counts.nodes - 1) (omega arith) (omega arith);
-            whole = c.in-default.ensures.whole;
+            whole = c.in_default.ensures.whole;
           };
     }

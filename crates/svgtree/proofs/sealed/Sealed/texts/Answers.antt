@@ -1,5 +1,5 @@
 -- That the texts listed are those of the card.
-use Rattle.std.proofs.Common.{sym, refl, subst}
+use Rattle.std.proofs.Common.{refl, subst}
 use Rattle.card.specs.Tables.{entries, contents}
 use Rattle.traverse.specs.Texts.{card_texts, Listed}
 use Rattle.svgtree.specs.Calls.{Lists}
@@ -10,8 +10,8 @@ pub returns : goal.returns
 returns c =
     let e = entries c.args.tables in
     let counts = c.args.self.now.counts in
-    let listed = subst (λ texts. Listed texts c.args.list.now c.list-texts.new.list c.list-texts.result) (c.list-texts.ensures.texts-of-the-card e counts refl refl) c.list-texts.ensures.lists in
+    let listed = subst (λ texts. Listed texts c.args.list.now c.list_texts.new.list c.list_texts.result) (c.list_texts.ensures.texts_of_the_card e counts refl refl) c.list_texts.ensures.lists in
     record {
-      every-text-element-once = subst (λ x. Lists x (card_texts (contents e counts)) c.args.list.now c.list-texts.new.list c.list-texts.result) c.in-ok-check-card.ensures.the-first-check-that-fails listed;
-      a-refusal-changes-nothing = refused_unchanged (card_texts (contents e counts)) c.args.list.now c.list-texts.new.list c.list-texts.result listed;
+      every_text_element_once = subst (λ x. Lists x (card_texts (contents e counts)) c.args.list.now c.list_texts.new.list c.list_texts.result) c.in_ok-check_card.ensures.the_first_check_that_fails listed;
+      a_refusal_changes_nothing = refused_unchanged (card_texts (contents e counts)) c.args.list.now c.list_texts.new.list c.list_texts.result listed;
     }

@@ -18,5 +18,5 @@ returns c =
     let f = length_of c.args.self.settings c.args.self.size c.args.self.base in
     let n = length-map c.args.self.lengths.now f in
     let l : c.args.i < length (list_shown c.args.self) = omega arith in
-    ap {B = Option Float} (λ x. Some x) (c.convert-length.ensures.answer ∙ sym (get_or-map f c.args.self.lengths.now c.args.i blank_length nan (omega arith)))
+    ap {B = Option Float} (λ x. Some x) (c.convert_length.ensures.answer ∙ sym (get_or-map f c.args.self.lengths.now c.args.i blank_length nan (omega arith)))
     ∙ sym (slice_get-get_or (list_shown c.args.self) c.args.i nan l)
