@@ -3,7 +3,7 @@ use Rattle.std.proofs.Common.{◌≡◌, ℕ, suc, ◌+◌, ◌/◌, ◌<◌, �
 use lib.ListN.{length-map}
 use lib.Utf8.{encode, encodes, next}
 use Rattle.std.specs.Str.{chars}
-use Rattle.std.specs.shelf.Text.{bytes_after}
+use Rattle.std.specs.Str.{continuation_len}
 use Rattle.std.proofs.lemmas.List.{take_at, drop_at, length-drop, get_or-drop}
 use Rattle.std.proofs.lemmas.List.Sums.{sum_by-append}
 use Rattle.std.proofs.lemmas.Bool.{or_left, or_right, or_from, cond_both, lt-ltb, le-ltb, le-leb, lt-leb, ltb-true}
@@ -62,12 +62,12 @@ few_characters bs h =
 
 -- ---- a first byte says how many follow
 
-length_by_first : (c : ℕ) (rest : List ℕ) → length (encode c) ≡ 1 + bytes_after (get_or (encode c ++ rest) 0 0)
+length_by_first : (c : ℕ) (rest : List ℕ) → length (encode c) ≡ 1 + continuation_len (get_or (encode c ++ rest) 0 0)
 unfolding encode
 length_by_first c rest =
-    cond_both (ltb c 128) _ _ (λ bs. length bs ≡ 1 + bytes_after (get_or (bs ++ rest) 0 0)) (λ e. rw e)
-    (λ e. cond_both (ltb c 2048) _ _ (λ bs. length bs ≡ 1 + bytes_after (get_or (bs ++ rest) 0 0)) (λ e. let l = ltb-true c 2048 e in rw (le-ltb (192 + c / 64) 128 (omega arith), lt-ltb (192 + c / 64) 224 (omega arith)))
-    (λ e. cond_both (ltb c 65536) _ _ (λ bs. length bs ≡ 1 + bytes_after (get_or (bs ++ rest) 0 0)) (λ e. let l = ltb-true c 65536 e in rw (le-ltb (224 + c / 4096) 128 (omega arith), le-ltb (224 + c / 4096) 224 (omega arith), lt-ltb (224 + c / 4096) 240 (omega arith)))
+    cond_both (ltb c 128) _ _ (λ bs. length bs ≡ 1 + continuation_len (get_or (bs ++ rest) 0 0)) (λ e. rw e)
+    (λ e. cond_both (ltb c 2048) _ _ (λ bs. length bs ≡ 1 + continuation_len (get_or (bs ++ rest) 0 0)) (λ e. let l = ltb-true c 2048 e in rw (le-ltb (192 + c / 64) 128 (omega arith), lt-ltb (192 + c / 64) 224 (omega arith)))
+    (λ e. cond_both (ltb c 65536) _ _ (λ bs. length bs ≡ 1 + continuation_len (get_or (bs ++ rest) 0 0)) (λ e. let l = ltb-true c 65536 e in rw (le-ltb (224 + c / 4096) 128 (omega arith), le-ltb (224 + c / 4096) 224 (omega arith), lt-ltb (224 + c / 4096) 240 (omega arith)))
     (λ e. rw (le-ltb (240 + c / 262144) 128 (omega arith), le-ltb (240 + c / 262144) 224 (omega arith), le-ltb (240 + c / 262144) 240 (omega arith)))))
 
 -- a text that is not empty is a character, of as many bytes as its first says, and a rest
@@ -90,16 +90,16 @@ begun_by c bs rest e u =
       first = ap (map encode) (chars_past_char bs rest c u e) ∙ cc;
     }
 
-pub begun : (bs : List ℕ) → 0 < length bs → is_utf8 bs ≡ true → Begun bs (1 + bytes_after (get_or bs 0 0))
+pub begun : (bs : List ℕ) → 0 < length bs → is_utf8 bs ≡ true → Begun bs (1 + continuation_len (get_or bs 0 0))
 begun bs h s = let u = (decided bs).0 s in go u.0 u.1.1 u
   where
-    go : (cs : List ℕ) → encodes cs ≡ bs → IsUtf8 bs → Begun bs (1 + bytes_after (get_or bs 0 0))
+    go : (cs : List ℕ) → encodes cs ≡ bs → IsUtf8 bs → Begun bs (1 + continuation_len (get_or bs 0 0))
     go [] e u = absurd (let l = ap length e in omega arith)
-    go (c ∷ cs) e u = subst (Begun bs) (length_by_first c (encodes cs) ∙ ap (λ x. 1 + bytes_after (get_or x 0 0)) e) (begun_by c bs (encodes cs) (sym e) u)
+    go (c ∷ cs) e u = subst (Begun bs) (length_by_first c (encodes cs) ∙ ap (λ x. 1 + continuation_len (get_or x 0 0)) e) (begun_by c bs (encodes cs) (sym e) u)
 
 -- the same of the text from a place on
-pub begun_at : (bs : List ℕ) (i : ℕ) → i < length bs → is_utf8 (drop i bs) ≡ true → Begun (drop i bs) (1 + bytes_after (get_or bs i 0))
+pub begun_at : (bs : List ℕ) (i : ℕ) → i < length bs → is_utf8 (drop i bs) ≡ true → Begun (drop i bs) (1 + continuation_len (get_or bs i 0))
 begun_at bs i h s =
     let l = length-drop i bs in
     let e : get_or (drop i bs) 0 0 ≡ get_or bs i 0 = get_or-drop i bs 0 0 ∙ ap (λ j. get_or bs j 0) (add-zero i) in
-    subst (λ b. Begun (drop i bs) (1 + bytes_after b)) e (begun (drop i bs) (omega arith) s)
+    subst (λ b. Begun (drop i bs) (1 + continuation_len b)) e (begun (drop i bs) (omega arith) s)

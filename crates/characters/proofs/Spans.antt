@@ -9,7 +9,7 @@ use Rattle.std.proofs.lemmas.List.Sums.{sum_by-cons, sum_by_push}
 use Rattle.std.proofs.ByRecursion.{sum_by_le}
 use Rattle.std.proofs.lemmas.Bool.{cases_Bool, cond-true, cond-false, and_left, and_right, and_from, lt-ltb, le-ltb}
 use Rattle.std.proofs.lemmas.Str.{chars-nil}
-use Rattle.card.specs.Contents.{Item, root, element, text, Card, item, bytes_of, is_text, is_text_item, below, numbers, texts_below}
+use Rattle.card.specs.Contents.{Item, root, element, text, Card, item, bytes_of, is_text, is_text_item, below, texts_below}
 use Rattle.characters.specs.Characters.{by_character, spelled, numbered, characters, char_count}
 use Rattle.characters.specs.Subtrees.{LiesBetween}
 

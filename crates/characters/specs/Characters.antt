@@ -2,7 +2,7 @@
 use Rattle.std.specs.Prelude.{ℕ, ◌+◌, Bool, ◌||◌, ltb, List, [], ◌∷◌, map, length, count_by, nat_le, nat_lt}
 use Rattle.std.proofs.Math.Utf8.{encode}
 use Rattle.std.specs.List.{flat_map}
-use Rattle.std.specs.Str.{chars as decodes}
+use Rattle.std.specs.Str.{chars}
 use Rattle.card.specs.Contents.{Card, item, bytes_of, texts_below}
 
 -- a character: its number in the element, the number of its text, its bytes
@@ -13,8 +13,8 @@ pub record Character : Type 0 where
 
 -- bytes of UTF-8 by characters, which are code points; U+FEFF is one like any other
 unfoldable pub by_character : List ℕ → List (List ℕ)
-unfolding decodes encode
-by_character bs = map encode (decodes bs)
+unfolding chars encode
+by_character bs = map encode (chars bs)
 
 -- a byte that is the first of a character: any but those from 0x80 to 0xBF
 abbrev pub begins_character : ℕ → Bool

@@ -1,6 +1,6 @@
 //! The characters of UTF-8, by the bytes that begin them.
 ghost use Rattle.std.specs.Prelude.{◌≡◌, ◌+◌, ◌<◌, ◌≤◌, true, ◌∷◌, length, take, drop};
-ghost use Rattle.std.specs.shelf.Text.{bytes_after};
+ghost use Rattle.std.specs.Str.{continuation_len};
 ghost use Rattle.card.specs.Order.{is_utf8};
 ghost use Rattle.characters.specs.Characters.{by_character, begins_character};
 
@@ -27,7 +27,7 @@ pub fn count_chars(text: &[u8]) -> usize
 
 // How many bytes a character has, by its first.
 fn len_by_first(byte: u8) -> usize
-    ensures { result ≡ 1 + bytes_after byte }
+    ensures { result ≡ 1 + continuation_len byte }
 {
     match byte {
         0..0x80 => 1,

@@ -1,18 +1,17 @@
 -- The items of a document, by the nodes of its tables, and the way up from them.
-use Rattle.std.proofs.Common.{◌≡◌, ℕ, zero, suc, ◌-◌, ◌<◌, ◌≤◌, true, cond, not, ltb, leb, ◌⊎◌, List, [], ◌∷◌, map, length, is_some, Some, None, Option, unwrap_or, sym, refl, ap, ◌∙◌, subst, ⊎_elim, arith}
+use Rattle.std.proofs.Common.{◌≡◌, ℕ, zero, suc, ◌<◌, ◌≤◌, true, cond, not, ltb, leb, List, ◌∷◌, map, length, is_some, Some, None, Option, unwrap_or, sym, refl, ap, ◌∙◌, subst, ⊎_elim, arith}
 use mathlib.Core.Bool.{false≢true}
 use Rattle.std.specs.Option.{option_map}
-use Rattle.std.proofs.lemmas.Bool.{and_parts, cases_lt, lt-ltb, le-ltb, ltb-true, leb-true, cond-true, cond-false}
+use Rattle.std.proofs.lemmas.Bool.{and_parts, cases_lt, lt-ltb, le-ltb, leb-true, cond-true, cond-false}
 use Rattle.names.specs.declared.AId.{AId}
 use Rattle.names.specs.declared.EId.{EId}
 use Rattle.card.specs.declared.record.Run.{Run}
 use Rattle.card.specs.declared.record.Attribute.{Attribute}
 use Rattle.card.specs.declared.record.NodeKind.{NodeKind}
 use Rattle.card.specs.declared.record.NodeKind.TheVariants as kind
-use Rattle.card.specs.declared.record.TableCounts.{TableCounts}
 use Rattle.card.specs.Lists.{all}
 use Rattle.card.specs.Contents.{root, item, attrs_of, above}
-use Rattle.card.specs.Tables.{Entries, entries, node, run_in, item_by, attr_of, contents, Whole}
+use Rattle.card.specs.Tables.{Entries, entries, node, run_in, item_by, attr_of, contents}
 use Rattle.card.specs.TableOrder.{in_use, attribute_in_order, filled, follows_on, parented}
 use Rattle.card.proofs.Checked.{item_at, length_contents, passes}
 use Rattle.card.proofs.Climb as climb

@@ -1,12 +1,12 @@
 -- What a card has whose check passed.
-use Rattle.std.proofs.Common.{◌≡◌, ℕ, ◌<◌, ◌≤◌, Bool, true, false, cond, ltb, ◌⊎◌, length, is_ok, Some, None, Ok, Err, Option, Result, sym, refl, ap, ◌∙◌, ⊎_elim}
+use Rattle.std.proofs.Common.{◌≡◌, ℕ, ◌≤◌, Bool, true, false, cond, ltb, length, is_ok, Some, None, Ok, Err, Option, Result, refl}
 use mathlib.Core.Bool.{false≢true}
-use Rattle.std.proofs.lemmas.Bool.{cases_Bool, ltb-false}
+use Rattle.std.proofs.lemmas.Bool.{ltb-false}
 use Rattle.card.specs.declared.fault.Fault.{Fault}
 use Rattle.card.specs.declared.fault.Fault.TheVariants as fault
 use Rattle.card.specs.declared.record.TableCounts.{TableCounts}
-use Rattle.card.specs.Tables.{Entries, Whole}
-use Rattle.card.specs.TableOrder.{lowest_out_of_order, TablesInOrder}
+use Rattle.card.specs.Tables.{Entries}
+use Rattle.card.specs.TableOrder.{lowest_out_of_order}
 use Rattle.card.proofs.Checked.{none_out}
 use Rattle.order.specs.Checks.{then, table_checked, tables_checked, order_refused, card_checked, SoundCard}
 

@@ -1,5 +1,5 @@
 -- A document as contents, and what its calls answer of an item.
-use Rattle.std.specs.Prelude.{◌≡◌, ℕ, ◌<◌, Bool, true, false, cond, List, [], ◌∷◌, Some, None, Option, nat_lt}
+use Rattle.std.specs.Prelude.{◌≡◌, ℕ, ◌<◌, Bool, true, false, cond, [], ◌∷◌, Some, None, Option, nat_lt}
 use Rattle.names.specs.declared.EId.{EId}
 use Rattle.card.specs.declared.record.NodeKind.{NodeKind}
 use Rattle.card.specs.declared.record.NodeKind.TheVariants as kind

@@ -1,5 +1,5 @@
 -- The laws of lengths where they stand.
-use Rattle.std.proofs.Common.{◌≡◌, ℕ, List, map, Some, None, Option, sym, refl, ap, ◌∙◌}
+use Rattle.std.proofs.Common.{◌≡◌, ℕ, List, map, Some, None, refl, ap, ◌∙◌}
 use lib.Ieee.{Float}
 use Rattle.std.specs.Option.{option_map}
 use Rattle.names.specs.declared.AId.{AId}

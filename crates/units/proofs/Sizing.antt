@@ -1,5 +1,5 @@
 -- The laws of a font's size: what an element's own font-size gives, and one step from the size around it.
-use Rattle.std.proofs.Common.{◌≡◌, ℕ, Bool, true, false, cond, [], ◌∷◌, is_some, Some, None, Option, unwrap_or, sym, refl, ap, ◌∙◌, arith}
+use Rattle.std.proofs.Common.{◌≡◌, ℕ, Bool, true, false, ◌∷◌, is_some, Some, None, Option, unwrap_or, sym, refl, ap, ◌∙◌}
 use lib.Ieee.{Float}
 use Rattle.std.proofs.lemmas.Bool.{cond-true, cond-false}
 use Rattle.names.specs.declared.AId.TheVariants as name

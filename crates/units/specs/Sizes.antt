@@ -4,7 +4,7 @@ use Rattle.std.specs.Float.Ieee.{of_bits, mul, div}
 use Rattle.std.specs.Option.{unwrap_or}
 use Rattle.names.specs.declared.AId.TheVariants as name
 use Rattle.card.specs.declared.record.Length.{Length}
-use Rattle.card.specs.Contents.{Reading, Card, above}
+use Rattle.card.specs.Contents.{Card, above}
 use Rattle.values.specs.declared.keyword.NamedSize.{NamedSize}
 use Rattle.values.specs.declared.keyword.NamedSize.TheVariants as word
 use Rattle.values.specs.Values.{raw}

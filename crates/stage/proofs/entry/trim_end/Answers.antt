@@ -1,4 +1,4 @@
-use Rattle.std.proofs.Common.{◌≡◌, ◌+◌, ◌-◌, length, take, sym, ap, ◌∙◌, arith}
+use Rattle.std.proofs.Common.{◌≡◌, ◌+◌, ◌-◌, length, take, sym, ap, arith}
 use Rattle.std.specs.List.{suffix_len}
 use Rattle.std.proofs.lemmas.List.{take_all}
 use Rattle.std.proofs.lemmas.List.Sums.{suffix_len-take_yes, suffix_len-take_no}
@@ -18,17 +18,14 @@ loop-end-preserved c =
     let i = c.loop-end.invariant.1 in
     (omega arith, omega arith)
 
--- no space is left behind
-none_left : (c : goal.After-result·1) → suffix_len is_space (take c.loop-end.end c.args.bytes.now) ≡ 0
-none_left c =
+pub returns : goal.returns
+returns c =
+    -- no space is left behind
+    let z : suffix_len is_space (take c.loop-end.end c.args.bytes.now) ≡ 0 =
     elim c.loop-end-test.branch [
       | then-loop-end-test+else-bytes-end-eq32 w ↦ suffix_len-take_no is_space c.args.bytes.now c.loop-end.end 0 w.loop-end-test.true c.loop-end.invariant.0 (ne_eqb _ 32 w.if-bytes-end-eq32.false)
       | else-loop-end-test w ↦ let q : c.loop-end.end ≡ 0 = omega (arith, w.loop-end-test.false) in ap (λ n. suffix_len is_space (take n c.args.bytes.now)) q
-    ]
-
-pub returns : goal.returns
-returns c =
-    let z = none_left c in
+    ] in
     let i = c.loop-end.invariant.1 in
     let q : c.loop-end.end - 0 ≡ length c.args.bytes.now - suffix_len is_space c.args.bytes.now = omega arith in
     ap (λ n. take n c.args.bytes.now) q

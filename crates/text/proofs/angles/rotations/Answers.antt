@@ -22,20 +22,20 @@ pub returns-in_err-check_card : goal.returns-in_err-check_card
 returns-in_err-check_card c =
     let e = entries c.args.tables in
     let before = c.args.angles.now in
-    let p = err_from_is_err_and c.from-residual.result c.from-residual.ensures.1 in
+    let p = err_from_is_err_and c.from_residual.result c.from_residual.ensures.1 in
     record {
       answer_and_angles =
           ap (with_angles before) (p.1 ∙ ap {B = Result ℕ Fault} (λ f. Err f) p.2)
           ∙ rotated_unchecked e c.counts-counts.result c.args.element before c.in_err-check_card.field-0.0 c.in_err-check_card.ensures.the_first_check_that_fails
           ∙ ap (λ n. rotated e n c.args.element before) c.counts-counts.ensures;
-      a_refusal_changes_nothing = kept before c.from-residual.result;
+      a_refusal_changes_nothing = kept before c.from_residual.result;
     }
 
 pub returns-in_err-check_text_element : goal.returns-in_err-check_text_element
 returns-in_err-check_text_element c =
     let e = entries c.args.tables in
     let before = c.args.angles.now in
-    let out = c.from-residual-in_err-check_text_element in
+    let out = c.from_residual-in_err-check_text_element in
     let p = err_from_is_err_and out.result out.ensures.1 in
     record {
       answer_and_angles =

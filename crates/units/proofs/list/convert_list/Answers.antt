@@ -6,7 +6,7 @@ use Rattle.units.proofs.Measuring.{list_none, list_some}
 use Rattle.units.proofs.list.convert_list.Goals as goal
 
 pub returns-in_err-lengths : goal.returns-in_err-lengths
-returns-in_err-lengths c = ap (option_map list_shown) c.from-residual.ensures ∙ list_none _ _ c.args.k c.args.name c.in_err-lengths.ensures
+returns-in_err-lengths c = ap (option_map list_shown) c.from_residual.ensures ∙ list_none _ _ c.args.k c.args.name c.in_err-lengths.ensures
 
 pub returns : goal.returns
 returns c =

@@ -1,4 +1,4 @@
-use Rattle.std.proofs.Common.{◌≡◌, ◌≤◌, sym, ap, ◌∙◌, arith}
+use Rattle.std.proofs.Common.{◌≡◌, sym, ap, ◌∙◌, arith}
 use Rattle.values.proofs.Searching.{sought_from, has_here, ends_here, past_element, past_text, none_left}
 use Rattle.values.proofs.search.find_among.Goals as goal
 use Rattle.values.proofs.search.find_among.Goals.{then-is_element, else-is_element}
@@ -7,7 +7,7 @@ pub returns-then-has_attribute : goal.returns-then-has_attribute
 returns-then-has_attribute c = sym (has_here c.args.doc c.args.name c.loop-left.left c.loop-left.at (omega arith) c.if-has_attribute.ensures) ∙ c.loop-left.invariant
 
 pub returns-in_err-at : goal.returns-in_err-at
-returns-in_err-at c = c.from-residual.ensures ∙ sym (ends_here c.args.doc c.args.name c.loop-left.left c.loop-left.at c.in_err-at.ensures) ∙ c.loop-left.invariant
+returns-in_err-at c = c.from_residual.ensures ∙ sym (ends_here c.args.doc c.args.name c.loop-left.left c.loop-left.at c.in_err-at.ensures) ∙ c.loop-left.invariant
 
 pub loop-left-preserved : goal.loop-left-preserved
 loop-left-preserved c =

@@ -4,7 +4,7 @@ use Rattle.values.proofs.Asking.{nearest_none, nearest_some}
 use Rattle.values.proofs.search.find_attribute.Goals as goal
 
 pub returns-in_err-element : goal.returns-in_err-element
-returns-in_err-element g c = ap (option_map g.T.FromValue.shows) c.from-residual.ensures ∙ nearest_none g.T.FromValue.reads _ c.args.k c.args.name c.in_err-element.ensures
+returns-in_err-element g c = ap (option_map g.T.FromValue.shows) c.from_residual.ensures ∙ nearest_none g.T.FromValue.reads _ c.args.k c.args.name c.in_err-element.ensures
 
 pub returns : goal.returns
 returns g c = c.attribute.ensures ∙ nearest_some g.T.FromValue.reads _ c.args.k c.args.name c.in_ok-element.element c.in_ok-element.ensures

@@ -1,4 +1,4 @@
-use Rattle.std.proofs.Common.{sym, ◌∙◌, rules}
+use Rattle.std.proofs.Common.{sym, rules}
 use Rattle.document.proofs.Items.{sought}
 use Rattle.document.proofs.Firsts.{first_among}
 use Rattle.document.proofs.document.Document.value.Goals as goal
