@@ -1,13 +1,13 @@
 -- The elements around a character fall in number, so those below a bound are the last of them.
-use Rattle.std.proofs.Common.{◌≡◌, ℕ, zero, suc, ◌+◌, ◌<◌, ◌≤◌, Bool, true, false, cond, ◌||◌, eqb, ltb, ◌⊎◌, List, [], ◌∷◌, filter, sym, refl, ap, ◌∙◌, subst, inl, inr, ⊎_elim, arith}
+use Rattle.std.proofs.Common.{◌≡◌, ℕ, zero, suc, ◌+◌, ◌<◌, ◌≤◌, Bool, true, false, cond, ◌||◌, eqb, ltb, List, [], ◌∷◌, filter, sym, refl, ap, ◌∙◌, subst, ⊎_elim, arith}
 use mathlib.Core.Bool.{false≢true}
 use Rattle.std.specs.List.{AllByRecursion}
 use Rattle.std.proofs.ByRecursion.{All-weaker}
-use Rattle.std.proofs.lemmas.Bool.{cases_order, cases_Bool, cases_eq, cond-true, cond-false, lt-ltb, le-ltb, eqb-true, eq-eqb, ne_eqb, or_cases}
+use Rattle.std.proofs.lemmas.Bool.{cases_order, cases_Bool, cond-true, cond-false, lt-ltb, le-ltb, eqb-true, eq-eqb, ne_eqb, or_cases}
 use Rattle.card.specs.Lists.{member, up_to}
 use Rattle.card.specs.Contents.{Item, root, element, text, Card, item, parent, parent_of, above, around, below}
 use Rattle.card.specs.Order.{InOrder}
-use Rattle.card.proofs.Upward.{Rises, root_way, element_way, text_way, from_member, member_first}
+use Rattle.card.proofs.Upward.{root_way, element_way, text_way, from_member, member_first}
 use Rattle.card.proofs.Within.{orphan_way}
 use Rattle.characters.proofs.Parted.{keeps_all, keeps_none}
 use Rattle.characters.proofs.Subtree.{rises}

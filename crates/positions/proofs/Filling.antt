@@ -1,5 +1,5 @@
 -- A table that was cleared and then laid over holds the positions, or the angles, in its front.
-use Rattle.std.proofs.Common.{◌≡◌, ℕ, ◌<◌, ◌≤◌, List, map, length, get_or, unwrap_or, sym, refl, ap, ◌∙◌, subst, arith}
+use Rattle.std.proofs.Common.{◌≡◌, ℕ, ◌≤◌, List, map, length, unwrap_or, ap, ◌∙◌, arith}
 use lib.Ieee.{Float}
 use Rattle.std.specs.List.{range_with_len}
 use Rattle.card.specs.Contents.{Card}

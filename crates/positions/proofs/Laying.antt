@@ -1,18 +1,18 @@
 -- What a table holds once the elements of c up to some number have laid their lists.
-use Rattle.std.proofs.Common.{◌≡◌, ℕ, ◌+◌, ◌-◌, ◌<◌, ◌≤◌, Bool, true, false, cond, ◌&&◌, ltb, leb, ◌⊎◌, List, [], ◌∷◌, ◌++◌, map, length, get_or, sym, refl, ap, ◌∙◌, subst, inl, inr, ⊎_elim, true≢false, arith, length-append}
+use Rattle.std.proofs.Common.{◌≡◌, ℕ, ◌+◌, ◌<◌, ◌≤◌, Bool, true, false, cond, ltb, leb, ◌⊎◌, List, ◌++◌, map, length, get_or, sym, refl, ap, ◌∙◌, subst, inl, inr, ⊎_elim, true≢false, arith, length-append}
 use mathlib.Core.Bool.{false≢true}
 use lib.ListN.{length-map}
-use Rattle.std.proofs.lemmas.Bool.{and_parts, and_cases, and_from, cases_Bool, cases_lt, cond-true, cond-false, lt-ltb, ltb-true, ltb-false, le-leb, leb-true, leb-false}
+use Rattle.std.proofs.lemmas.Bool.{and_parts, and_cases, and_from, cases_Bool, cases_lt, cond-false, lt-ltb, ltb-true, ltb-false, le-leb, leb-true, leb-false}
 use Rattle.card.specs.Lists.{member}
-use Rattle.card.specs.Contents.{Item, root, element, text, Card, item, parent_of, parent, above, around, below, bytes_of}
+use Rattle.card.specs.Contents.{Card, parent_of, parent, above, around, below}
 use Rattle.card.specs.Order.{InOrder}
 use Rattle.card.proofs.Upward.{Elem, found, past_end, root_way}
 use Rattle.document.specs.Reads.{is_element_item, is_element}
 use Rattle.characters.specs.Characters.{Character, characters, chars_before, later_by}
 use Rattle.characters.specs.Subtrees.{LiesBetween}
 use Rattle.characters.proofs.Offsets as offsets
-use Rattle.characters.proofs.Subtree.{rises, element_within}
-use Rattle.positions.specs.Stacked.{stacked, number_in, no_character, text_of, changed, Changed}
+use Rattle.characters.proofs.Subtree.{rises}
+use Rattle.positions.specs.Stacked.{stacked, number_in, no_character, text_of, Changed}
 use Rattle.positions.specs.Part.{PartChanged}
 use Rattle.positions.proofs.Beginnings.{first_offset}
 use Rattle.positions.proofs.Falling.{lower, none_lower, all_lower, stacked_more}

@@ -1,5 +1,5 @@
 -- What the elements around a character make of its position and of its angle is what the innermost says.
-use Rattle.std.proofs.Common.{◌≡◌, ℕ, Bool, true, false, cond, List, [], ◌∷◌, Some, None, Option, unwrap_or, sym, refl, ap, ◌∙◌}
+use Rattle.std.proofs.Common.{◌≡◌, ℕ, true, false, cond, List, [], ◌∷◌, Some, None, Option, unwrap_or, sym, refl, ap, ◌∙◌}
 use lib.Ieee.{Float}
 use Rattle.std.specs.Option.{option_or}
 use Rattle.card.specs.Contents.{Card, around}

@@ -1,5 +1,5 @@
 -- What the innermost element around a character says of it.
-use Rattle.std.specs.Prelude.{ℕ, List, [], ◌∷◌, ◌++◌, length, drop, Some, None, Option}
+use Rattle.std.specs.Prelude.{ℕ, List, [], ◌∷◌, ◌++◌, length, drop, None, Option}
 use Rattle.std.specs.Option.{option_or}
 use Rattle.card.specs.Contents.{Card, around, above}
 use Rattle.characters.specs.Characters.{Character}

@@ -1,5 +1,5 @@
 -- A part of a table, changed entry by entry.
-use Rattle.std.specs.Prelude.{◌≡◌, ℕ, ◌+◌, ◌-◌, ◌<◌, ◌≤◌, ◌⊎◌, List, length, slice_index_or}
+use Rattle.std.specs.Prelude.{◌≡◌, ℕ, ◌+◌, ◌-◌, ◌<◌, ◌≤◌, List, length, slice_index_or}
 
 -- so many entries from an offset on were changed, by their place from there; all others stay
 pub record PartChanged {X : Type 0} (change : ℕ → X → X) (offset count : ℕ) (before after : List X) : Type 0 where

@@ -1,6 +1,6 @@
 -- What the elements around a character make of its entry in a table: the innermost has the last word.
 use Rattle.std.specs.Prelude.{◌≡◌, ℕ, ◌-◌, ◌<◌, ◌≤◌, List, [], ◌∷◌, length, get_or, slice_index_or}
-use Rattle.card.specs.Contents.{Card, around, above}
+use Rattle.card.specs.Contents.{Card, around}
 use Rattle.characters.specs.Characters.{Character, characters, chars_before}
 
 -- what some elements make of an entry, the nearest first: those further out go before

@@ -1,6 +1,6 @@
 -- One step of the way up to the closest element that passes a test: what is left of the way gives the answer.
-use Rattle.std.proofs.Common.{◌≡◌, ℕ, Bool, true, false, cond, ◌&&◌, List, [], ◌∷◌, Some, None, Option, sym, ap, ◌∙◌}
-use Rattle.std.proofs.lemmas.Bool.{and_parts, cond-true, cond-false}
+use Rattle.std.proofs.Common.{◌≡◌, ℕ, Bool, true, false, cond, ◌&&◌, ◌∷◌, Some, None, Option, sym, ap, ◌∙◌}
+use Rattle.std.proofs.lemmas.Bool.{and_parts}
 use Rattle.card.specs.Contents.{above}
 use Rattle.document.specs.declared.document.Document.{Document}
 use Rattle.document.specs.Reads.{card_of, is_element, Leads}

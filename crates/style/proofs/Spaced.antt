@@ -1,5 +1,5 @@
 -- The laws of kerning and of the length that a text is to have.
-use Rattle.std.proofs.Common.{◌≡◌, ℕ, Bool, true, false, not, ◌||◌, Some, None, codes, Option, sym, ap, ◌∙◌}
+use Rattle.std.proofs.Common.{◌≡◌, ℕ, Bool, true, false, not, ◌||◌, Some, None, codes, sym, ap, ◌∙◌}
 use lib.Ieee.{Float, lt, eq}
 use Rattle.std.proofs.lemmas.Bool.{cond-true, cond-false}
 use Rattle.names.specs.declared.AId.TheVariants as name

@@ -2,7 +2,7 @@
 use Rattle.std.specs.Prelude.{ℕ, Bool, cond, not, ◌||◌, Some, None, codes, Option, from_bits, Float}
 use Rattle.std.specs.Float.{binary32}
 use Rattle.std.specs.Float.Ieee.{eq, lt}
-use Rattle.std.specs.Option.{option_map, unwrap_or}
+use Rattle.std.specs.Option.{unwrap_or}
 use Rattle.names.specs.declared.AId.TheVariants as name
 use Rattle.card.specs.Contents.{Card}
 use Rattle.units.specs.declared.settings.Settings.{Settings}

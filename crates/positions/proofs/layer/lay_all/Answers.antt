@@ -1,7 +1,7 @@
-use Rattle.std.proofs.Common.{◌≡◌, ◌+◌, ◌<◌, ◌≤◌, true, length, sym, ap, ◌∙◌, subst, arith}
+use Rattle.std.proofs.Common.{◌≡◌, ◌+◌, length, sym, ap, ◌∙◌, arith}
 use Rattle.card.specs.Order.{is_utf8}
 use Rattle.document.specs.Reads.{card_of}
-use Rattle.characters.specs.Characters.{characters, chars_before, char_count, by_character}
+use Rattle.characters.specs.Characters.{char_count, by_character}
 use Rattle.characters.proofs.Documents.{in_order_of, spelled_text, few_of}
 use Rattle.characters.proofs.Subtree.{element_within}
 use Rattle.positions.proofs.Beginnings.{first_offset, next_offset, before_few}

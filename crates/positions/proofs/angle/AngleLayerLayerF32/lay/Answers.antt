@@ -1,4 +1,4 @@
-use Rattle.std.proofs.Common.{get_or, unwrap_or, sym, ap, ◌∙◌, arith}
+use Rattle.std.proofs.Common.{get_or, unwrap_or, ap, ◌∙◌, arith}
 use lib.Ieee.{nan}
 use Rattle.values.specs.Values.{bound}
 use Rattle.positions.specs.Angles.{at_or_last}
