@@ -12,10 +12,10 @@ import model
 import reference
 
 HERE = os.path.dirname(os.path.abspath(__file__))
-TARGET = os.path.join(os.path.dirname(HERE), "target")
+TOP = os.path.dirname(HERE)
 PROGRAMS = {
-    "oracle": os.environ.get("ORACLE", os.path.join(TARGET, "oracle", "oracle")),
-    "port": os.environ.get("CAPTIONS", os.path.join(TARGET, "bin", "captions")),
+    "oracle": os.environ.get("ORACLE", os.path.join(TOP, "target", "oracle", "oracle")),
+    "port": os.environ.get("CAPTIONS", os.path.join(TOP, "crates", "captions", "out", "captions")),
 }
 MODELS = {"model": frozenset(), "model-as-usvg": model.FAULTS}
 SIDES = list(PROGRAMS) + list(MODELS)

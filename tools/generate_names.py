@@ -68,15 +68,14 @@ def rows(name, doc, kind, names, spelt):
 
 def spec(path, first, kind, word, names, spelt, more=()):
     """The definitions over one enum."""
-    uses = ["use mathlib.Core.List.{List, [], _∷_}", "use mathlib.Core.Bool.{Bool, true, false}",
-            "use Prim.Native.Nat.{ℕ}", "use lib.Chars.{codes}", "use lib.Dec.{eqb}",
-            "use Rattle·std.specs.declared.option.Option.{Option}",
-            f"use Rattle·names·specs.declared.{kind}.{{{kind}}}",
-            f"use Rattle·names·specs.declared.{kind}.the-variants as v",
-            "use Rattle·names·specs.Rows.{sought, spelt}"]
+    truths = "true, false, " if more else ""
+    uses = [f"use Rattle.std.specs.Prelude.{{ℕ, Bool, {truths}List, [], ◌∷◌, codes, Option, ◌==◌}}",
+            f"use Rattle.names.specs.declared.{kind}.{{{kind}}}",
+            f"use Rattle.names.specs.declared.{kind}.TheVariants as v",
+            "use Rattle.names.specs.Rows.{sought, spelt}"]
     parts = [
         clauses("place", f"the place of a {word} in its list", kind, "ℕ", [(n, i) for i, n in enumerate(names)]),
-        f"-- two {word}s are the same\nabbrev pub same : {kind} → {kind} → Bool\nsame a b = eqb (place a) (place b)\n",
+        f"-- two {word}s are the same\nabbrev pub same : {kind} → {kind} → Bool\nsame a b = place a == place b\n",
         *more,
         clauses("spelling", f"how a {word} is written", kind, "List ℕ", [(n, f'codes "{spelt[n]}"') for n in names]),
         f"-- every {word}, by place\nabbrev pub all : List {kind}\nall =\n{listed(names)}\n",
@@ -87,15 +86,15 @@ def spec(path, first, kind, word, names, spelt, more=()):
 
 def each_in_turn(function, names):
     """The proof that a test by a list of variants is `true` at each of them."""
-    test, need = function.replace("_", "-"), f"returns-in-{names[0]}"
-    steps = ["⊎-elim at ("] * (len(names) - 1)
+    goal = f"returns-in-{names[0]}"
+    steps = ["⊎_elim at ("] * (len(names) - 1)
     lines = ["    " + " ".join(steps[i:i + 10]) for i in range(0, len(steps), 10)]
     return ("-- Each of the listed names passes the test.\n"
-            "use mathlib.Core.Path.{_≡_, ap, sym}\nuse mathlib.Core.Logic.{⊎-elim}\n"
-            "use Rattle·names·specs.declared.AId.{AId}\n"
-            f"use Rattle·names·specs.AIds.{{{test}}}\nuse Rattle·names·proofs.AId.{function}.Needs as need\n\n"
-            f"at : {{a v : AId}} → a ≡ v → {test} v ≡ {test} a\nat e = sym (ap {test} e)\n\n"
-            f"pub {need} : need.{need}\n{need} c =\n" + "\n".join(lines) + "at" + ")" * len(steps) + f" (c .in-{names[0]} .is)\n")
+            "use Rattle.std.proofs.Common.{◌≡◌, sym, ap, ⊎_elim}\n"
+            "use Rattle.names.specs.declared.AId.{AId}\n"
+            f"use Rattle.names.specs.AIds.{{{function}}}\nuse Rattle.names.proofs.AId.{function}.Goals as goal\n\n"
+            f"at : {{a v : AId}} → a ≡ v → {function} v ≡ {function} a\nat e = sym (ap {function} e)\n\n"
+            f"pub {goal} : goal.{goal}\n{goal} c =\n" + "\n".join(lines) + "at" + ")" * len(steps) + f" c.in-{names[0]}.is\n")
 
 
 def main():
@@ -114,7 +113,7 @@ def main():
         return [(n, "true" if n in chosen else "false") for n in aids]
 
     write("src/lib.rt",
-          "//! The tags of elements, the names of attributes and the units of lengths.\n"
+          "//! The tags of elements, the names of attributes and the units of lengths.\n#![tactic(auto)]\n\n"
           + "".join(f"mod {m};\n" for m in ("attribute_rows", "attributes", "inherited", "rows", "tag_rows", "tags", "units")) + "\n"
           + enum("EId", "The tag of an element.", eids) + "\n"
           + enum("AId", "The name of an attribute.", aids) + "\n"
@@ -122,31 +121,31 @@ def main():
 
     write("src/tag_rows.rt",
           "//! The tags with their spellings.\n"
-          "ghost use mathlib.Core.Path.{_≡_};\nghost use Rattle·names·specs.EIds.{all, spelling};\n"
-          "ghost use Rattle·names·specs.Rows.{shown, spelt};\nuse crate::EId;\n\n"
+          "ghost use Rattle.std.specs.Prelude.{◌≡◌};\nghost use Rattle.names.specs.EIds.{all, spelling};\n"
+          "ghost use Rattle.names.specs.Rows.{shown, spelt};\n\nuse crate::EId;\n\n"
           + rows("ROWS", "Each tag with its spelling, in the order of the enum.", "EId", eids, eid_spelt)
           + "\n/// Each tag with its spelling, in the order of the enum.\npub(crate) fn rows() -> &'static [(EId, &'static str)]\n"
-          "    ensures { λ r. ⌜ shown (now r) ≡ spelt spelling all ⌝ }\n{\n    &ROWS\n}\n")
+          "    ensures { shown result.now ≡ spelt spelling all }\n{\n    &ROWS\n}\n")
 
     parts = [aids[i:i + PART] for i in range(0, len(aids), PART)]
     words = ["first", "second", "third", "fourth"]
     write("src/attribute_rows.rt",
           "//! The names of attributes with their spellings, in four parts, since long tables take long to check.\n"
-          "ghost use mathlib.Core.Path.{_≡_};\nghost use Rattle·names·specs.AIds.{spelling};\n"
-          "ghost use Rattle·names·specs.Parts.{part};\nghost use Rattle·names·specs.Rows.{shown, spelt};\nuse crate::AId;\n"
+          "ghost use Rattle.std.specs.Prelude.{◌≡◌};\nghost use Rattle.names.specs.AIds.{spelling};\n"
+          "ghost use Rattle.names.specs.Parts.{part};\nghost use Rattle.names.specs.Rows.{shown, spelt};\n\nuse crate::AId;\n"
           + "".join("\n" + rows(w.upper(), f"The {w} {len(p)} names.", "AId", p, aid_spelt)
                     + f"\n/// The rows of the {w} part.\npub(crate) fn {w}() -> &'static [(AId, &'static str)]\n"
-                    f"    ensures {{ λ r. ⌜ shown (now r) ≡ spelt spelling (part {i}) ⌝ }}\n{{\n    &{w.upper()}\n}}\n"
+                    f"    ensures {{ shown result.now ≡ spelt spelling (part {i}) }}\n{{\n    &{w.upper()}\n}}\n"
                     for i, (w, p) in enumerate(zip(words, parts))))
 
     def chosen(function, doc, set_):
         arms = " | ".join(f"AId::{n}" for n in aids if n in set_)
-        return (f"    /// {doc}\n    pub fn {function}(self) -> bool\n        ensures {{ λ r. ⌜ r ≡ {function.replace('_', '-')} self ⌝ }}\n"
+        return (f"    /// {doc}\n    pub fn {function}(self) -> bool\n        ensures {{ result ≡ {function} self }}\n"
                 f"    {{\n        matches!(self, {arms})\n    }}\n")
 
     write("src/inherited.rt",
           "//! Which attributes reach what lies below their element, and for which `none` is as good as no value.\n"
-          "ghost use mathlib.Core.Path.{_≡_};\nghost use Rattle·names·specs.AIds.{is-inheritable, none-is-absent};\nuse crate::AId;\n\n"
+          "ghost use Rattle.std.specs.Prelude.{◌≡◌};\nghost use Rattle.names.specs.AIds.{is_inheritable, none_is_absent};\n\nuse crate::AId;\n\n"
           "impl AId {\n"
           + chosen("is_inheritable", "Whether a value of this name reaches all that lies below its element.", inherited) + "\n"
           + chosen("none_is_absent", "Whether the value `none` says that there is no value.", absent) + "}\n")
@@ -154,11 +153,11 @@ def main():
     spec("specs/EIds.antt", "The tags of elements: their places and their spellings.", "EId", "tag", eids, eid_spelt)
     spec("specs/AIds.antt", "The names of attributes: their places, which are inherited, which take `none` as absent, and their spellings.",
          "AId", "name", aids, aid_spelt,
-         [clauses("is-inheritable", "a value of this name reaches all that lies below its element", "AId", "Bool", truth(inherited)),
-          clauses("none-is-absent", "the value `none` says that there is no value", "AId", "Bool", truth(absent))])
+         [clauses("is_inheritable", "a value of this name reaches all that lies below its element", "AId", "Bool", truth(inherited)),
+          clauses("none_is_absent", "the value `none` says that there is no value", "AId", "Bool", truth(absent))])
     for function, set_ in (("is_inheritable", inherited), ("none_is_absent", absent)):
         write(f"proofs/AId/{function}/Answers.antt", each_in_turn(function, [n for n in aids if n in set_]))
-    subprocess.run(["rt", "fmt"], cwd=ROOT, check=True)
+    subprocess.run(["rt", "fmt"], cwd=CRATE, check=True)
 
 
 if __name__ == "__main__":
