@@ -41,7 +41,7 @@ module _ (e : Entries) (c : TableCounts) (w : Whole e c) (o : TablesInOrder e c)
   before = open_before e c w o p inside
 
   module _ (a : Attr) (spelled : is_utf8 a.value ≡ true) (rules : keeps_rules a.reading ≡ true) (room : c.attributes < length e.attributes) (few : c.attributes < 16384) where
-    module _ (space : c.bytes + length a.value ≤ length e.bytes) (limit : c.bytes + length a.value ≤ 65536) (more-space : c.lengths + length a.reading.lengths ≤ length e.lengths) (more-limit : c.lengths + length a.reading.lengths ≤ 16384) where
+    module _ (space : c.bytes + length a.value ≤ length e.bytes) (limit : c.bytes + length a.value ≤ 65536) (more_space : c.lengths + length a.reading.lengths ≤ length e.lengths) (more_limit : c.lengths + length a.reading.lengths ≤ 16384) where
       abbrev e' : Entries
       e' = with_attribute e c p a
 
@@ -70,9 +70,9 @@ module _ (e : Entries) (c : TableCounts) (w : Whole e c) (o : TablesInOrder e c)
           let x = length-set e.nodes p (with_end (node e p) end') in
           let y = length-set e.attributes c.attributes entry in
           let b = length_laid e.bytes c.bytes a.value space in
-          let l = length_laid e.lengths c.lengths a.reading.lengths more-space in
+          let l = length_laid e.lengths c.lengths a.reading.lengths more_space in
           let m = w.nodes in
-          record { nodes = omega arith; nodes_few = w.nodes_few; attributes = omega arith; attributes_few = omega arith; bytes = omega arith; bytes_few = limit; lengths = omega arith; lengths_few = more-limit }
+          record { nodes = omega arith; nodes_few = w.nodes_few; attributes = omega arith; attributes_few = omega arith; bytes = omega arith; bytes_few = limit; lengths = omega arith; lengths_few = more_limit }
 
       -- ---- the new entry
 

@@ -6,7 +6,7 @@ ghost use Rattle.card.specs.Lists.{all};
 ghost use Rattle.card.specs.Tables.{entries, attr_of};
 ghost use Rattle.card.specs.TableOrder.{attribute_in_order};
 ghost use Rattle.document.specs.Reads.{card_of};
-ghost use Rattle.document.specs.Said.{said, said_by, first_passing, entry_named, attribute as first-attribute};
+ghost use Rattle.document.specs.Said.{said, said_by, first_passing, entry_named, attribute as first_attribute};
 
 use crate::document::Document;
 use crate::node::part;
@@ -52,7 +52,7 @@ impl<'a> Document<'a> {
 
     /// The value of the first attribute of a name, as it lies in the tables.
     pub fn value(self, k: u32, name: AId) -> Option<Value<'a>>
-        ensures { option_map said result ≡ option_map said_by (first-attribute (card_of self.entry) k name) }
+        ensures { option_map said result ≡ option_map said_by (first_attribute (card_of self.entry) k name) }
     {
         let attribute = first_named(self.attributes(k), name)?;
         Some(self.value_of(attribute))
@@ -60,7 +60,7 @@ impl<'a> Document<'a> {
 
     /// Whether an element has an attribute of the name.
     pub fn has_attribute(self, k: u32, name: AId) -> bool
-        ensures { result ≡ is_some (first-attribute (card_of self.entry) k name) }
+        ensures { result ≡ is_some (first_attribute (card_of self.entry) k name) }
     {
         first_named(self.attributes(k), name).is_some()
     }

@@ -44,7 +44,7 @@ module _ (e : Entries) (n m : ℕ) (last next : List (Option ℕ)) (h : Expected
           nexts = λ k o l w u. h.nexts k o l w u ∙ sym (next_after_other e k m (λ s. let z : Some o ≡ Some p = sym w ∙ s ∙ q in let same : o ≡ p = cc in omega arith));
         })
 
-    module _ (near : p < n) (lasts-long : n ≤ length last) (nexts-long : n ≤ length next) (before : m < n) where
+    module _ (near : p < n) (lasts_long : n ≤ length last) (nexts_long : n ≤ length next) (before : m < n) where
       last_so : (k : ℕ) → k < n → get_or (set last p (Some m)) k None ≡ highest (child e k) (suc m)
       last_so k l =
           ⊎_elim

@@ -46,9 +46,9 @@ module _ (e : Entries) (c : TableCounts) (k : ℕ) (s : SoundDraft e c k) where
       let first = opened.open_above_root e c s.whole s.order k s.inside in
       let low = (climb.way e c s.whole k climbs k p first (omega arith) q).1 in
       let place = s.order.each k open_before in
-      let IsAbove-before = (and_parts (not (is_root_kind (node e k).kind)) (member p (above (contents e c) (k - 1))) (sym (place_later e c s.whole p k (omega arith) open_before q) ∙ and_from (parented e k) (in_place (contents e c) k) place.parent place.place)).1 in
+      let above_before = (and_parts (not (is_root_kind (node e k).kind)) (member p (above (contents e c) (k - 1))) (sym (place_later e c s.whole p k (omega arith) open_before q) ∙ and_from (parented e k) (in_place (contents e c) k) place.parent place.place)).1 in
       let rises = climb.rises e c s.whole k climbs in
-      let elem = (found (contents e c) (k - 1) (rises_less (contents e c) k (k - 1) (omega arith) rises) p IsAbove-before).1 in
+      let elem = (found (contents e c) (k - 1) (rises_less (contents e c) k (k - 1) (omega arith) rises) p above_before).1 in
       within (contents e c) (c.nodes - 1) (opened.rises e c s.whole s.order) (c.nodes - 1) k p (omega arith)
       (climb.above_parent e c s.whole k climbs p k p low (omega arith) q ∙ elem_itself (contents e c) k rises p (omega arith) elem)
       s.inside

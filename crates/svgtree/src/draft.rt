@@ -1,7 +1,7 @@
 //! A card that is being built, and the calls on it.
 ghost use Rattle.std.specs.Prelude.{◌≡◌, [], ◌∷◌, ◌++◌, IfOk, OnErr, OnOk, slice_set};
 ghost use Rattle.build.specs.Edits.{with_attr};
-ghost use Rattle.card.specs.Contents.{element, text as text-item, item};
+ghost use Rattle.card.specs.Contents.{element, text as text_item, item};
 ghost use Rattle.card.specs.Tables.{Entries, entries, contents};
 ghost use Rattle.svgtree.specs.Calls.{lent, begun_card, outcome, held, Holds, Unchanged, begun, opened, written, attr_given, given, closed, sealed};
 
@@ -81,7 +81,7 @@ impl Draft {
     ) -> Result<u32, Fault>
         ensures answer_and_tables { outcome result self.new (lent nodes.new attributes.now bytes.new lengths.now) ≡ written self.old (lent nodes.old attributes.now bytes.old lengths.now) text.now }
         ensures a_refusal_changes_nothing { OnErr result (Unchanged self.old (lent nodes.old attributes.now bytes.old lengths.now) self.new (lent nodes.new attributes.now bytes.new lengths.now)) }
-        ensures one_text_more { OnOk result (Holds (lent nodes.new attributes.now bytes.new lengths.now) self.new (held (lent nodes.old attributes.now bytes.old lengths.now) self.old ++ text-item self.old.«open» text.now ∷ [])) }
+        ensures one_text_more { OnOk result (Holds (lent nodes.new attributes.now bytes.new lengths.now) self.new (held (lent nodes.old attributes.now bytes.old lengths.now) self.old ++ text_item self.old.«open» text.now ∷ [])) }
     {
         let Draft { counts, open } = *self;
         let tables = Tables {

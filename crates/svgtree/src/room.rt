@@ -3,7 +3,7 @@ ghost use Rattle.std.specs.Prelude.{◌≡◌, ◌+◌, ◌<◌, ◌≤◌, true
 ghost use Rattle.card.specs.Order.{is_utf8, keeps_rules};
 ghost use Rattle.card.specs.Tables.{entries, contents};
 ghost use Rattle.card.specs.Contents.{above};
-ghost use Rattle.names.specs.declared.AId.TheVariants.{AlignmentBaseline as blank-name};
+ghost use Rattle.names.specs.declared.AId.TheVariants.{AlignmentBaseline as blank_name};
 ghost use Rattle.build.specs.Edits.{entry_of, count_attribute};
 ghost use Rattle.order.specs.Checks.{SoundDraft};
 ghost use Rattle.svgtree.specs.Calls.{draft, lacks, opening_checked, writing_checked, attr_given, value_checked, space_checked, Space};
@@ -62,8 +62,8 @@ pub(crate) fn check_writing(
 
 // Refuses an attribute of an element that is not the newest node, or one whose value or reading may not stand in a card.
 pub(crate) fn check_value(counts: TableCounts, open: u32, value: Value<'_>) -> Result<(), Fault>
-    ensures answer { result ≡ value_checked (draft counts «open») (attr_given blank-name value.entry) }
-    ensures fits { OnOk result ((«open» + 1 ≡ counts.nodes) × (is_utf8 value.entry.bytes.now ≡ true) × (keeps_rules (attr_given blank-name value.entry).reading ≡ true)) }
+    ensures answer { result ≡ value_checked (draft counts «open») (attr_given blank_name value.entry) }
+    ensures fits { OnOk result ((«open» + 1 ≡ counts.nodes) × (is_utf8 value.entry.bytes.now ≡ true) × (keeps_rules (attr_given blank_name value.entry).reading ≡ true)) }
 {
     if open as usize + 1 != counts.nodes {
         return Err(Fault::NotNewest(open));
@@ -83,8 +83,8 @@ pub(crate) fn check_space(
     value: Value<'_>,
 ) -> Result<(), Fault>
     requires { SoundDraft (entries tables) counts «open» }
-    ensures answer { result ≡ space_checked (draft counts «open») (entries tables.entry) (attr_given blank-name value.entry) }
-    ensures fits { OnOk result (Space (entries tables.entry) counts (attr_given blank-name value.entry)) }
+    ensures answer { result ≡ space_checked (draft counts «open») (entries tables.entry) (attr_given blank_name value.entry) }
+    ensures fits { OnOk result (Space (entries tables.entry) counts (attr_given blank_name value.entry)) }
 {
     let needed = counts.attributes + 1;
     if lacks_room(tables.attributes.len(), MAX_ATTRIBUTES, needed) {
@@ -123,7 +123,7 @@ pub(crate) fn entry_of(counts: TableCounts, name: AId, value: Value<'_>) -> Attr
 // The counts with an attribute more.
 pub(crate) fn counts_with(counts: TableCounts, value: Value<'_>) -> TableCounts
     requires { (counts.attributes < 16384) × (counts.bytes + length value.bytes.now ≤ 65536) × (counts.lengths + length value.lengths.now ≤ 16384) }
-    ensures { result ≡ count_attribute counts (attr_given blank-name value.entry) }
+    ensures { result ≡ count_attribute counts (attr_given blank_name value.entry) }
 {
     TableCounts {
         nodes: counts.nodes,
