@@ -63,7 +63,6 @@ def turn(text, names, comment):
     """The text with the names respelled, but for strings, and in comments only within backticks."""
     out = []
     for line in text.split("\n"):
-        # a label of an edit stands before the source text, and is no part of it
         pieces = re.split(r'("(?:[^"\\]|\\.)*")', line)
         said = False
         for k, piece in enumerate(pieces):

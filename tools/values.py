@@ -4,7 +4,7 @@
 Usage: python3 tools/values.py < crates/values_tour/stdin > crates/values_tour/stdout
 
 It shares no code with the library. Every number is a Fraction, or one of inf, -inf and nan; an operation is done
-exactly and rounded once to the nearest f32, ties to even. The formulas are those of docs/TEXT.md.
+exactly and rounded once to the nearest f32, ties to even. The formulas are those of CSS's and SVG's lengths.
 """
 import re
 import sys
