@@ -1,40 +1,73 @@
-//! How an answer is printed, and the tally of the calls.
-use crate::session::Answer;
+//! What a line comes to, how that is printed, and the tally of the calls.
+use card::Fault;
+use std::alloc::{AllocError, AllocFailed};
 use std::fmt;
 
+/// What a line did.
+#[derive(Drop)]
+pub(crate) enum Answer {
+    Poked,
+    Tables,
+    Begun,
+    Opened(u32),
+    Given(u32),
+    Wrote(u32),
+    Closed(u32),
+    Sealed,
+    Reopened,
+    Admitted,
+    Texts(Vec<u32>),
+}
+
+/// Why a line did nothing.
+#[derive(Drop)]
+pub(crate) enum NoAnswer {
+    Unreadable,
+    NotNow,
+    Refused(Fault),
+    NoMemory(AllocError),
+}
+
+impl From<Fault> for NoAnswer {
+    fn from(fault: Fault) -> NoAnswer {
+        NoAnswer::Refused(fault)
+    }
+}
+
+impl From<AllocError> for NoAnswer {
+    fn from(error: AllocError) -> NoAnswer {
+        NoAnswer::NoMemory(error)
+    }
+}
+
+impl<T: Drop> From<AllocFailed<T>> for NoAnswer {
+    fn from(error: AllocFailed<T>) -> NoAnswer {
+        NoAnswer::NoMemory(error.into())
+    }
+}
+
 /// How many calls were made, and how many of them were accepted.
-#[derive(Clone, Copy, Drop)]
+#[derive(Clone, Copy, Default)]
 pub(crate) struct Tally {
     accepted: u32,
     refused: u32,
 }
 
 impl Tally {
-    pub(crate) fn new() -> Tally {
-        Tally {
-            accepted: 0,
-            refused: 0,
-        }
-    }
-
-    /// Counts an answer: a raw write and a line that made no call count for nothing.
-    pub(crate) fn count(&mut self, answer: &Answer) {
-        match answer {
-            Answer::Unreadable | Answer::NotNow | Answer::Poked => {}
-            Answer::Refused(_) => {
-                self.refused = self.refused.saturating_add(1);
-            }
-            _ => {
-                self.accepted = self.accepted.saturating_add(1);
-            }
+    /// Counts what a line came to: a raw write and a line that made no call count for nothing.
+    pub(crate) fn count(&mut self, outcome: &Result<Answer, NoAnswer>) {
+        match outcome {
+            Ok(Answer::Poked) => {}
+            Ok(_) => self.accepted = self.accepted.saturating_add(1),
+            Err(NoAnswer::Refused(_)) => self.refused = self.refused.saturating_add(1),
+            Err(_) => {}
         }
     }
 }
 
 impl fmt::Display for Tally {
     fn fmt<W: fmt::Write>(&self, f: &mut fmt::Formatter<W>) -> fmt::Result {
-        let accepted = self.accepted;
-        let refused = self.refused;
+        let Tally { accepted, refused } = *self;
         let calls = accepted.saturating_add(refused);
         write!(f, "{calls} calls, {accepted} accepted, {refused} refused")
     }
@@ -43,8 +76,6 @@ impl fmt::Display for Tally {
 impl fmt::Display for Answer {
     fn fmt<W: fmt::Write>(&self, f: &mut fmt::Formatter<W>) -> fmt::Result {
         match self {
-            Answer::Unreadable => write!(f, "unreadable"),
-            Answer::NotNow => write!(f, "not now"),
             Answer::Poked => write!(f, "poked"),
             Answer::Tables => write!(f, "tables"),
             Answer::Begun => write!(f, "begun"),
@@ -62,7 +93,17 @@ impl fmt::Display for Answer {
                 }
                 Ok(())
             }
-            Answer::Refused(fault) => write!(f, "{fault}"),
+        }
+    }
+}
+
+impl fmt::Display for NoAnswer {
+    fn fmt<W: fmt::Write>(&self, f: &mut fmt::Formatter<W>) -> fmt::Result {
+        match self {
+            NoAnswer::Unreadable => write!(f, "unreadable"),
+            NoAnswer::NotNow => write!(f, "not now"),
+            NoAnswer::Refused(fault) => write!(f, "{fault}"),
+            NoAnswer::NoMemory(error) => write!(f, "{error}"),
         }
     }
 }

@@ -1,8 +1,9 @@
 //! The lines of a script: what call each one makes, with what it is given.
+use crate::answer::NoAnswer;
 use crate::words::Words;
 use card::{Attribute, Length, Marks, NodeData, NodeKind, Run, TableCounts};
 use names::{AId, EId};
-use std::alloc::{AllocError, Global};
+use std::alloc::Global;
 
 /// A line that could be read.
 #[derive(Drop)]
@@ -16,60 +17,45 @@ pub(crate) enum Line {
     Seal,
     Reopen,
     Admit(TableCounts),
-    PokeNode(usize, NodeData),
-    PokeAttribute(usize, Attribute),
-    PokeByte(usize, u8),
-    PokeLength(usize, Length),
+    Poke(Poke),
     Texts(usize),
+}
+
+/// An entry that is written raw into one of the tables, by its index.
+#[derive(Clone, Copy)]
+pub(crate) enum Poke {
+    Node(usize, NodeData),
+    Attribute(usize, Attribute),
+    Byte(usize, u8),
+    Length(usize, Length),
 }
 
 // Four numbers, one for each table.
 fn counts(words: &mut Words<'_>) -> Option<TableCounts> {
-    let nodes = words.number()? as usize;
-    let attributes = words.number()? as usize;
-    let bytes = words.number()? as usize;
-    let lengths = words.number()? as usize;
     Some(TableCounts {
-        nodes,
-        attributes,
-        bytes,
-        lengths,
+        nodes: words.number()? as usize,
+        attributes: words.number()? as usize,
+        bytes: words.number()? as usize,
+        lengths: words.number()? as usize,
     })
 }
 
 fn run(words: &mut Words<'_>) -> Option<Run> {
-    let start = words.number()?;
-    let end = words.number()?;
-    Some(Run { start, end })
+    Some(Run {
+        start: words.number()?,
+        end: words.number()?,
+    })
 }
 
 fn marks(words: &mut Words<'_>) -> Option<Marks> {
-    let word = words.spelled()?;
-    if word == "neither" {
-        return Some(Marks {
-            single: false,
-            plain: false,
-        });
-    }
-    if word == "single" {
-        return Some(Marks {
-            single: true,
-            plain: false,
-        });
-    }
-    if word == "plain" {
-        return Some(Marks {
-            single: false,
-            plain: true,
-        });
-    }
-    if word == "both" {
-        return Some(Marks {
-            single: true,
-            plain: true,
-        });
-    }
-    None
+    let (single, plain) = match words.word()? {
+        "neither" => (false, false),
+        "single" => (true, false),
+        "plain" => (false, true),
+        "both" => (true, true),
+        _ => return None,
+    };
+    Some(Marks { single, plain })
 }
 
 fn length(words: &mut Words<'_>) -> Option<Length> {
@@ -78,41 +64,33 @@ fn length(words: &mut Words<'_>) -> Option<Length> {
 }
 
 fn tag(words: &mut Words<'_>) -> Option<EId> {
-    EId::from_str(words.spelled()?)
+    EId::from_str(words.word()?)
 }
 
 fn name(words: &mut Words<'_>) -> Option<AId> {
-    AId::from_str(words.spelled()?)
+    AId::from_str(words.word()?)
 }
 
 // The kind of a node: `root`, `element TAG START END` or `text START END`.
 fn kind(words: &mut Words<'_>) -> Option<NodeKind> {
-    let word = words.spelled()?;
-    if word == "root" {
-        return Some(NodeKind::Root);
+    match words.word()? {
+        "root" => Some(NodeKind::Root),
+        "element" => Some(NodeKind::Element {
+            tag: tag(words)?,
+            attributes: run(words)?,
+        }),
+        "text" => Some(NodeKind::Text(run(words)?)),
+        _ => None,
     }
-    if word == "element" {
-        let tag = tag(words)?;
-        let attributes = run(words)?;
-        return Some(NodeKind::Element { tag, attributes });
-    }
-    if word == "text" {
-        return Some(NodeKind::Text(run(words)?));
-    }
-    None
 }
 
 fn node(words: &mut Words<'_>) -> Option<NodeData> {
     let kind = kind(words)?;
-    let parent = words.link()?;
-    let next = words.link()?;
-    let first = words.link()?;
-    let last = words.link()?;
     Some(NodeData {
-        parent,
-        next,
-        first,
-        last,
+        parent: words.link()?,
+        next: words.link()?,
+        first: words.link()?,
+        last: words.link()?,
         kind,
     })
 }
@@ -131,115 +109,65 @@ fn attribute(words: &mut Words<'_>) -> Option<Attribute> {
 }
 
 // What is written raw into one of the tables.
-fn poke(words: &mut Words<'_>) -> Option<Line> {
-    let table = words.spelled()?;
+fn read_poke(words: &mut Words<'_>) -> Option<Poke> {
+    let table = words.word()?;
     let k = words.number()? as usize;
-    if table == "node" {
-        return Some(Line::PokeNode(k, node(words)?));
+    match table {
+        "node" => Some(Poke::Node(k, node(words)?)),
+        "attribute" => Some(Poke::Attribute(k, attribute(words)?)),
+        "byte" => Some(Poke::Byte(k, u8::try_from(words.number()?).ok()?)),
+        "length" => Some(Poke::Length(k, length(words)?)),
+        _ => None,
     }
-    if table == "attribute" {
-        return Some(Line::PokeAttribute(k, attribute(words)?));
-    }
-    if table == "byte" {
-        let byte = words.number()?;
-        if byte > 255 {
-            return None;
-        }
-        return Some(Line::PokeByte(k, byte as u8));
-    }
-    if table == "length" {
-        return Some(Line::PokeLength(k, length(words)?));
-    }
-    None
 }
 
-// The lengths up to the end of the line.
-fn lengths(
-    words: &mut Words<'_>,
-    heap: Global,
-    most: usize,
-) -> Result<Option<Vec<Length>>, AllocError> {
+// The lengths up to the end of the line, which has so many bytes.
+fn lengths(words: &mut Words<'_>, heap: Global, most: usize) -> Result<Vec<Length>, NoAnswer> {
     let mut read = Vec::new(heap);
     for _ in 0..most {
         if words.ended() {
             break;
         }
-        let Some(length) = length(words) else {
-            return Ok(None);
-        };
-        read.push(length)?;
+        read.push(length(words).ok_or(NoAnswer::Unreadable)?)?;
     }
-    Ok(Some(read))
+    Ok(read)
 }
 
 // An attribute's name, value, marks and reading.
-fn give(words: &mut Words<'_>, heap: Global, most: usize) -> Result<Option<Line>, AllocError> {
-    let Some(name) = name(words) else {
-        return Ok(None);
-    };
-    let Some(value) = words.text(heap)? else {
-        return Ok(None);
-    };
-    let Some(marks) = marks(words) else {
-        return Ok(None);
-    };
-    let Some(lengths) = lengths(words, heap, most)? else {
-        return Ok(None);
-    };
-    Ok(Some(Line::Give(name, value, marks, lengths)))
-}
-
-fn write(words: &mut Words<'_>, heap: Global) -> Result<Option<Line>, AllocError> {
-    match words.text(heap)? {
-        Some(text) => Ok(Some(Line::Write(text))),
-        None => Ok(None),
-    }
+fn give(words: &mut Words<'_>, heap: Global, most: usize) -> Result<Line, NoAnswer> {
+    let name = name(words).ok_or(NoAnswer::Unreadable)?;
+    let value = words.text(heap)?;
+    let marks = marks(words).ok_or(NoAnswer::Unreadable)?;
+    Ok(Line::Give(name, value, marks, lengths(words, heap, most)?))
 }
 
 // A line of a word and plain words after it.
 fn plain(word: &str, words: &mut Words<'_>) -> Option<Line> {
-    if word == "tables" {
-        return Some(Line::Tables(counts(words)?));
+    match word {
+        "tables" => Some(Line::Tables(counts(words)?)),
+        "begin" => Some(Line::Begin),
+        "open" => Some(Line::Open(tag(words)?)),
+        "close" => Some(Line::Close),
+        "seal" => Some(Line::Seal),
+        "reopen" => Some(Line::Reopen),
+        "admit" => Some(Line::Admit(counts(words)?)),
+        "poke" => Some(Line::Poke(read_poke(words)?)),
+        "texts" => Some(Line::Texts(words.number()? as usize)),
+        _ => None,
     }
-    if word == "begin" {
-        return Some(Line::Begin);
-    }
-    if word == "open" {
-        return Some(Line::Open(tag(words)?));
-    }
-    if word == "close" {
-        return Some(Line::Close);
-    }
-    if word == "seal" {
-        return Some(Line::Seal);
-    }
-    if word == "reopen" {
-        return Some(Line::Reopen);
-    }
-    if word == "admit" {
-        return Some(Line::Admit(counts(words)?));
-    }
-    if word == "poke" {
-        return poke(words);
-    }
-    if word == "texts" {
-        return Some(Line::Texts(words.number()? as usize));
-    }
-    None
 }
 
-/// Reads a line; none if it cannot be read, or not to its end.
-pub(crate) fn read_line(bytes: &[u8], heap: Global) -> Result<Option<Line>, AllocError> {
+/// Reads a line, to its end.
+pub(crate) fn read_line(bytes: &[u8], heap: Global) -> Result<Line, NoAnswer> {
     let mut words = Words::new(bytes);
-    let Some(word) = words.spelled() else {
-        return Ok(None);
+    let line = match words.word().ok_or(NoAnswer::Unreadable)? {
+        "give" => give(&mut words, heap, bytes.len())?,
+        "write" => Line::Write(words.text(heap)?),
+        word => plain(word, &mut words).ok_or(NoAnswer::Unreadable)?,
     };
-    let line = if word == "give" {
-        give(&mut words, heap, bytes.len())?
-    } else if word == "write" {
-        write(&mut words, heap)?
+    if words.ended() {
+        Ok(line)
     } else {
-        plain(word, &mut words)
-    };
-    if words.ended() { Ok(line) } else { Ok(None) }
+        Err(NoAnswer::Unreadable)
+    }
 }

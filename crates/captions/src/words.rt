@@ -1,151 +1,46 @@
 //! The words of a line: separated by one space each; a text stands between double quotes.
+ghost use Rattle.std.specs.Prelude.{◌<◌, IfSome, length};
+
+use crate::answer::NoAnswer;
 use names::LengthUnit;
-use std::alloc::{AllocError, Global};
+use std::alloc::Global;
 use std::str::from_utf8;
 
 /// A reader of a line's words, from left to right.
 #[derive(Drop)]
 pub(crate) struct Words<'a> {
-    line: &'a [u8],
-    at: usize,
-}
-
-// The value of a hexadecimal digit.
-fn hex(digit: u8) -> Option<u8> {
-    match digit {
-        b'0'..=b'9' => Some(digit - b'0'),
-        b'a'..=b'f' => Some(digit - b'a' + 10),
-        b'A'..=b'F' => Some(digit - b'A' + 10),
-        _ => None,
-    }
+    // What has not been read; none once the last word was, which has no space behind it.
+    rest: Option<&'a [u8]>,
 }
 
 impl<'a> Words<'a> {
     pub(crate) fn new(line: &'a [u8]) -> Words<'a> {
-        Words { line, at: 0 }
-    }
-
-    // The byte at a place, if the line has one there.
-    fn byte(&self, at: usize) -> Option<u8> {
-        if at < self.line.len() {
-            Some(self.line[at])
-        } else {
-            None
-        }
+        Words { rest: Some(line) }
     }
 
     /// Whether the whole line has been read.
     pub(crate) fn ended(&self) -> bool {
-        // One past the end: the last word was read, with no space behind it.
-        self.at > self.line.len()
+        self.rest.is_none()
     }
 
     /// The next word: what stands before the next space, or before the end.
-    pub(crate) fn word(&mut self) -> Option<&'a [u8]> {
-        let line = self.line;
-        let start = self.at;
-        if start > line.len() {
-            return None;
-        }
-        let rest = &line[start..];
-        let mut width = rest.len();
-        for (i, byte) in rest.iter().enumerate() {
-            if *byte == b' ' {
-                width = i;
-                break;
-            }
-        }
-        self.at = start.saturating_add(width).saturating_add(1);
-        rest.get(0..width)
-    }
-
-    /// The next word as text.
-    pub(crate) fn spelled(&mut self) -> Option<&'a str> {
-        match from_utf8(self.word()?) {
-            Ok(text) => Some(text),
-            Err(_) => None,
-        }
+    pub(crate) fn word(&mut self) -> Option<&'a str> {
+        let mut parts = self.rest?.splitn(2, |byte| *byte == b' ');
+        let word = parts.next()?;
+        self.rest = parts.next();
+        from_utf8(word).ok()
     }
 
     /// The next word as a number below 2^32, of digits alone.
     pub(crate) fn number(&mut self) -> Option<u32> {
-        let word = self.word()?;
-        if word.is_empty() {
-            return None;
-        }
-        let mut value = 0u32;
-        for digit in word {
-            if *digit < b'0' || *digit > b'9' {
-                return None;
-            }
-            value = value.checked_mul(10)?.checked_add((*digit - b'0') as u32)?;
-        }
-        Some(value)
+        number_of(self.word()?)
     }
 
     /// The next word as a link: a number, or `-` for none.
     pub(crate) fn link(&mut self) -> Option<Option<u32>> {
-        let start = self.at;
-        if self.word()? == b"-".as_slice() {
-            return Some(None);
-        }
-        self.at = start;
-        Some(Some(self.number()?))
-    }
-
-    // What an escape stands for, from the byte after the backslash on, and how long it is.
-    fn escape(&self, at: usize) -> Option<(u8, usize)> {
-        match self.byte(at)? {
-            b'"' => Some((b'"', 1)),
-            b'\\' => Some((b'\\', 1)),
-            b'n' => Some((b'\n', 1)),
-            b'r' => Some((b'\r', 1)),
-            b't' => Some((b'\t', 1)),
-            b'x' => {
-                let high = hex(self.byte(at.checked_add(1)?)?)?;
-                let low = hex(self.byte(at.checked_add(2)?)?)?;
-                Some((high.wrapping_mul(16) | low, 3))
-            }
-            _ => None,
-        }
-    }
-
-    /// The next word as a text between double quotes.
-    pub(crate) fn text(&mut self, heap: Global) -> Result<Option<Vec<u8>>, AllocError> {
-        let mut bytes = Vec::new(heap);
-        if self.byte(self.at) != Some(b'"') {
-            return Ok(None);
-        }
-        let mut at = self.at.saturating_add(1);
-        for _ in 0..self.line.len() {
-            let Some(byte) = self.byte(at) else {
-                return Ok(None);
-            };
-            at = at.saturating_add(1);
-            if byte == b'"' {
-                return Ok(self.closed(at, bytes));
-            }
-            if byte == b'\\' {
-                let Some((meant, width)) = self.escape(at) else {
-                    return Ok(None);
-                };
-                bytes.push(meant)?;
-                at = at.saturating_add(width);
-            } else {
-                bytes.push(byte)?;
-            }
-        }
-        Ok(None)
-    }
-
-    // A text that was closed before `at`: there the line ends, or a space stands.
-    fn closed(&mut self, at: usize, bytes: Vec<u8>) -> Option<Vec<u8>> {
-        match self.byte(at) {
-            None | Some(b' ') => {
-                self.at = at.saturating_add(1);
-                Some(bytes)
-            }
-            Some(_) => None,
+        match self.word()? {
+            "-" => Some(None),
+            word => Some(Some(number_of(word)?)),
         }
     }
 
@@ -153,26 +48,72 @@ impl<'a> Words<'a> {
     pub(crate) fn length(&mut self) -> Option<(f32, LengthUnit)> {
         let word = self.word()?;
         // The longest unit first, since every word ends in the empty one.
-        for width in [2usize, 1, 0] {
-            if width <= word.len() {
-                let split = word.len() - width;
-                if let Some(length) = length_of(&word[0..split], &word[split..]) {
-                    return Some(length);
+        [2usize, 1, 0]
+            .into_iter()
+            .find_map(|width| length_of(word, width))
+    }
+
+    /// The next word as a text between double quotes.
+    pub(crate) fn text(&mut self, heap: Global) -> Result<Vec<u8>, NoAnswer> {
+        let mut text = Vec::new(heap);
+        let mut rest = self.quoted().ok_or(NoAnswer::Unreadable)?;
+        loop {
+            match rest {
+                [b'"'] => {
+                    self.rest = None;
+                    return Ok(text);
+                }
+                [b'"', b' ', others @ ..] => {
+                    self.rest = Some(others);
+                    return Ok(text);
+                }
+                _ => {
+                    let (meant, others) = byte_meant(rest).ok_or(NoAnswer::Unreadable)?;
+                    text.push(meant)?;
+                    rest = others;
                 }
             }
         }
-        None
+    }
+
+    // What stands behind an opening quote.
+    fn quoted(&self) -> Option<&'a [u8]> {
+        self.rest?.strip_prefix(b"\"")
     }
 }
 
-// A length by its number and its unit.
-fn length_of(number: &[u8], unit: &[u8]) -> Option<(f32, LengthUnit)> {
-    let (Ok(number), Ok(unit)) = (from_utf8(number), from_utf8(unit)) else {
+// A number of digits alone, where `parse` would take a plus sign too.
+fn number_of(word: &str) -> Option<u32> {
+    if word.starts_with('+') {
         return None;
-    };
-    let unit = LengthUnit::from_str(unit)?;
-    match number.parse::<f32>() {
-        Ok(number) => Some((number, unit)),
-        Err(_) => None,
     }
+    word.parse().ok()
+}
+
+// A length by a word that ends in a unit of this width.
+fn length_of(word: &str, width: usize) -> Option<(f32, LengthUnit)> {
+    let split = word.len().checked_sub(width)?;
+    let (number, unit) = word.split_at_checked(split)?;
+    Some((number.parse().ok()?, LengthUnit::from_str(unit)?))
+}
+
+// The byte that a text within quotes means first, and what stands behind it. A quote alone means none.
+fn byte_meant(text: &[u8]) -> Option<(u8, &[u8])>
+    ensures { IfSome result (λ r. length r.1.now < length text.now) }
+{
+    match text {
+        [b'\\', b'n', rest @ ..] => Some((b'\n', rest)),
+        [b'\\', b'r', rest @ ..] => Some((b'\r', rest)),
+        [b'\\', b't', rest @ ..] => Some((b'\t', rest)),
+        [b'\\', b'x', high, low, rest @ ..] => Some((hex(*high)? << 4 | hex(*low)?, rest)),
+        [b'\\', byte @ (b'"' | b'\\'), rest @ ..] => Some((*byte, rest)),
+        [b'\\' | b'"', ..] | [] => None,
+        [byte, rest @ ..] => Some((*byte, rest)),
+    }
+}
+
+// The value of a hexadecimal digit.
+fn hex(digit: u8) -> Option<u8> {
+    let value = char::from(digit).to_digit(16)?;
+    u8::try_from(value).ok()
 }

@@ -12,52 +12,27 @@ const BYTES: usize = 2048;
 
 const LENGTHS: usize = 256;
 
-/// The list that is given to the innermost element under every name: a length in each unit.
-const EACH_UNIT: [Length; 10] = [
-    Length {
-        number: 1.5,
-        unit: LengthUnit::None,
-    },
-    Length {
-        number: -2.25,
-        unit: LengthUnit::Px,
-    },
-    Length {
-        number: 0.1,
-        unit: LengthUnit::Em,
-    },
-    Length {
-        number: 0.3,
-        unit: LengthUnit::Ex,
-    },
-    Length {
-        number: 0.7,
-        unit: LengthUnit::In,
-    },
-    Length {
-        number: 1.1,
-        unit: LengthUnit::Cm,
-    },
-    Length {
-        number: 3.3,
-        unit: LengthUnit::Mm,
-    },
-    Length {
-        number: 10.0,
-        unit: LengthUnit::Pt,
-    },
-    Length {
-        number: 0.9,
-        unit: LengthUnit::Pc,
-    },
-    Length {
-        number: 33.3,
-        unit: LengthUnit::Percent,
-    },
+/// A length of each unit.
+const NUMBERS: [(f32, LengthUnit); 10] = [
+    (1.5, LengthUnit::None),
+    (-2.25, LengthUnit::Px),
+    (0.1, LengthUnit::Em),
+    (0.3, LengthUnit::Ex),
+    (0.7, LengthUnit::In),
+    (1.1, LengthUnit::Cm),
+    (3.3, LengthUnit::Mm),
+    (10.0, LengthUnit::Pt),
+    (0.9, LengthUnit::Pc),
+    (33.3, LengthUnit::Percent),
 ];
 
-/// The names under which it is given.
-const NAMES: [AId; 5] = [AId::X, AId::Y, AId::Dx, AId::Dy, AId::LetterSpacing];
+/// The names under which they are given to the innermost element, as one list.
+pub(crate) const NAMES: [AId; 5] = [AId::X, AId::Y, AId::Dx, AId::Dy, AId::LetterSpacing];
+
+const UNMARKED: Marks = Marks {
+    single: false,
+    plain: false,
+};
 
 /// The tables of a card.
 #[derive(Drop)]
@@ -70,34 +45,25 @@ pub(crate) struct Room {
 
 // A word as a length, where it is one.
 fn length_of(word: &str) -> Option<Length> {
-    let bytes = word.as_bytes();
     // The longest unit first, since every word ends in the empty one.
-    for width in [2usize, 1, 0] {
-        if width <= bytes.len() {
-            let split = bytes.len() - width;
-            let unit = match std::str::from_utf8(&bytes[split..]) {
-                Ok(unit) => LengthUnit::from_str(unit),
-                Err(_) => None,
-            };
-            let number = match std::str::from_utf8(&bytes[0..split]) {
-                Ok(number) => number.parse::<f32>().ok(),
-                Err(_) => None,
-            };
-            if let (Some(unit), Some(number)) = (unit, number) {
-                return Some(Length { number, unit });
-            }
-        }
-    }
-    None
+    [2usize, 1, 0]
+        .into_iter()
+        .find_map(|width| length_in_unit(word, width))
+}
+
+// A word that ends in a unit of this width as a length.
+fn length_in_unit(word: &str, width: usize) -> Option<Length> {
+    let split = word.len().checked_sub(width)?;
+    let (number, unit) = word.split_at_checked(split)?;
+    Some(Length {
+        number: number.parse().ok()?,
+        unit: LengthUnit::from_str(unit)?,
+    })
 }
 
 impl Room {
     pub(crate) fn new() -> Room {
         let run = Run { start: 0, end: 0 };
-        let marks = Marks {
-            single: false,
-            plain: false,
-        };
         let node = NodeData {
             parent: None,
             next: None,
@@ -109,7 +75,7 @@ impl Room {
             name: AId::X,
             value: run,
             lengths: run,
-            marks,
+            marks: UNMARKED,
         };
         let length = Length {
             number: 0.0,
@@ -153,31 +119,16 @@ impl Room {
             &self.lengths,
             EId::Tspan,
         )?;
-        match length_of(word) {
-            Some(length) => {
-                let lengths = [length];
-                let value = Value {
-                    bytes: word.as_bytes(),
-                    lengths: &lengths,
-                    marks: Marks {
-                        single: true,
-                        plain: false,
-                    },
-                };
-                self.give(draft, AId::FontSize, value)
-            }
-            None => {
-                let value = Value {
-                    bytes: word.as_bytes(),
-                    lengths: &[],
-                    marks: Marks {
-                        single: false,
-                        plain: false,
-                    },
-                };
-                self.give(draft, AId::FontSize, value)
-            }
-        }
+        let length = length_of(word);
+        let value = Value {
+            bytes: word.as_bytes(),
+            lengths: length.as_slice(),
+            marks: Marks {
+                single: length.is_some(),
+                plain: false,
+            },
+        };
+        self.give(draft, AId::FontSize, value)
     }
 
     /// Builds the card of a line, and answers how much of the tables it uses.
@@ -186,14 +137,12 @@ impl Room {
         for word in line.split(' ') {
             self.nest(&mut draft, word)?;
         }
+        let lengths = NUMBERS.map(|(number, unit)| Length { number, unit });
         for name in NAMES {
             let value = Value {
                 bytes: b"a length in each unit",
-                lengths: &EACH_UNIT,
-                marks: Marks {
-                    single: false,
-                    plain: false,
-                },
+                lengths: &lengths,
+                marks: UNMARKED,
             };
             self.give(&mut draft, name, value)?;
         }

@@ -1,4 +1,5 @@
 //! Prints the sizes of a card's elements, and the lengths of its innermost one.
+use crate::card_of_line::NAMES;
 use card::{TableCounts, Tables};
 use document::Document;
 use names::AId;
@@ -56,7 +57,7 @@ pub(crate) fn print_card(
     let doc = Document::new(tables, counts);
     let innermost = (counts.nodes - 1) as u32;
     print_sizes(rt, doc, innermost, settings)?;
-    for name in [AId::X, AId::Y, AId::Dx, AId::Dy, AId::LetterSpacing] {
+    for name in NAMES {
         print_list(rt, doc, innermost, name, settings)?;
     }
     Ok(())
