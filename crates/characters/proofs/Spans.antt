@@ -33,10 +33,7 @@ kept_same : (p q : ℕ → Bool) (xs : List ℕ) → AllByRecursion (λ k. p k �
 kept_same p q [] h = refl
 kept_same p q (x ∷ xs) h = ap (λ b. cond b (x ∷ filter p xs) (filter p xs)) h.0 ∙ ap (λ ys. cond (q x) (x ∷ ys) ys) (kept_same p q xs h.1)
 
--- a sum over numbers in a row: none, and one number more
-pub sum_none : (f : ℕ → ℕ) (a : ℕ) → 0 ≡ sum_by f (range_with_len a (a - a))
-sum_none f a = let q : 0 ≡ a - a = omega arith in ap (λ n. sum_by f (range_with_len a n)) q
-
+-- a sum over numbers in a row, and one number more
 sum_more : (f : ℕ → ℕ) (a k : ℕ) → a ≤ k → sum_by f (range_with_len a (k + 1 - a)) ≡ sum_by f (range_with_len a (k - a)) + f k
 sum_more f a k h =
     let q : k + 1 - a ≡ (k - a) + 1 = omega arith in

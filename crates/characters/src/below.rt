@@ -3,7 +3,7 @@ ghost use Rattle.std.specs.Prelude.{◌≡◌, ◌<◌, length};
 ghost use Rattle.card.specs.Contents.{parent};
 ghost use Rattle.document.specs.Reads.{card_of};
 ghost use Rattle.characters.specs.Subtrees.{LiesBetween};
-ghost use Rattle.characters.specs.Characters.{characters};
+ghost use Rattle.characters.specs.Characters.{characters, char_count};
 
 use crate::text::count_chars;
 use document::Document;
@@ -12,10 +12,7 @@ use document::Document;
 fn parent_or_root(doc: Document<'_>, k: u32) -> u32
     ensures { result ≡ parent (card_of doc.entry) k }
 {
-    match doc.parent(k) {
-        Some(parent) => parent,
-        None => 0,
-    }
+    doc.parent(k).unwrap_or(0)
 }
 
 /// The first number after a node that does not lie below it.
@@ -24,11 +21,20 @@ pub fn subtree_end(doc: Document<'_>, e: u32) -> u32
     requires node { e < length (card_of doc) }
     ensures { LiesBetween (card_of doc.entry) e result }
 {
-    let mut end = e + 1;
-    while (end as usize) < doc.len() && parent_or_root(doc, end) >= e {
-        end += 1;
+    let nodes = doc.len() as u32;
+    for k in e + 1..nodes {
+        if parent_or_root(doc, k) < e {
+            return k;
+        }
     }
-    end
+    nodes
+}
+
+// How many characters a number has as a text: none, if it is no text.
+fn count_chars_in(doc: Document<'_>, k: u32) -> usize
+    ensures { result ≡ char_count (card_of doc.entry) k }
+{
+    count_chars(doc.text(k))
 }
 
 /// How many characters a node has: those of all texts below it.
@@ -37,12 +43,7 @@ pub fn count_chars_below(doc: Document<'_>, e: u32) -> usize
     requires node { e < length (card_of doc) }
     ensures { result ≡ length (characters (card_of doc.entry) e) }
 {
-    let first = e + 1;
-    let end = subtree_end(doc, e);
-    let mut count: usize = 0;
-    for k in first..end {
-        // A node that is no text has no bytes.
-        count += count_chars(doc.text(k));
-    }
-    count
+    (e + 1..subtree_end(doc, e))
+        .map(|k| count_chars_in(doc, k))
+        .sum()
 }

@@ -16,13 +16,7 @@ pub fn count_chars(text: &[u8]) -> usize
     requires { is_utf8 text.now ≡ true }
     ensures { result ≡ length (by_character text.now) }
 {
-    let mut count: usize = 0;
-    for byte in text {
-        if begins_character(*byte) {
-            count += 1;
-        }
-    }
-    count
+    text.iter().filter(|byte| begins_character(**byte)).count()
 }
 
 // How many bytes a character has, by its first.

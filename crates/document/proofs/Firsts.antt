@@ -1,26 +1,16 @@
 -- The first of a list that passes a test.
 use Rattle.std.proofs.Common.{◌≡◌, ℕ, ◌+◌, ◌<◌, ◌≤◌, Bool, true, false, cond, List, [], ◌∷◌, map, length, get_or, drop, Some, None, sym, refl, ap, ◌∙◌, subst, arith}
+use Rattle.std.specs.List.{find}
 use Rattle.std.specs.Option.{option_map}
-use Rattle.std.proofs.lemmas.List.{at_drop_more, at_drop_all}
 use Rattle.std.proofs.lemmas.Bool.{and_parts, cond-true, cond-false}
 use Rattle.card.specs.Lists.{all}
 use Rattle.document.specs.Said.{first_passing}
 
-module _ {X : Type 0} (p : X → Bool) (xs : List X) (i : ℕ) where
-  -- what is left begins with one that passes
-  pub found_here : (d : X) → i < length xs → p (get_or xs i d) ≡ true → first_passing p (drop i xs) ≡ Some (get_or xs i d)
-  unfolding first_passing
-  found_here d l h = at_drop_more (first_passing p) xs i d l ∙ cond-true (p (get_or xs i d)) (Some (get_or xs i d)) (first_passing p (drop (i + 1) xs)) h
-
-  -- or with one that does not
-  pub passed_by : (d : X) → i < length xs → p (get_or xs i d) ≡ false → first_passing p (drop (i + 1) xs) ≡ first_passing p (drop i xs)
-  unfolding first_passing
-  passed_by d l h = sym (at_drop_more (first_passing p) xs i d l ∙ cond-false (p (get_or xs i d)) (Some (get_or xs i d)) (first_passing p (drop (i + 1) xs)) h)
-
-  -- or nothing is left
-  pub not_found : length xs ≤ i → first_passing p (drop i xs) ≡ None
-  unfolding first_passing
-  not_found h = at_drop_all (first_passing p) xs i h
+-- it is what `find` finds
+pub first_is_find : {X : Type 0} (p : X → Bool) (xs : List X) → find p xs ≡ first_passing p xs
+unfolding first_passing
+first_is_find p [] = refl
+first_is_find p (x ∷ xs) = ap (λ o. cond (p x) (Some x) o) (first_is_find p xs)
 
 pub first_none : {X : Type 0} (p : X → Bool) → first_passing p [] ≡ None
 unfolding first_passing

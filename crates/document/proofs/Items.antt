@@ -7,10 +7,11 @@ use Rattle.names.specs.declared.AId.{AId}
 use Rattle.names.specs.declared.EId.{EId}
 use Rattle.card.specs.declared.record.Run.{Run}
 use Rattle.card.specs.declared.record.Attribute.{Attribute}
+use Rattle.card.specs.declared.record.NodeData.{NodeData}
 use Rattle.card.specs.declared.record.NodeKind.{NodeKind}
 use Rattle.card.specs.declared.record.NodeKind.TheVariants as kind
 use Rattle.card.specs.Lists.{all}
-use Rattle.card.specs.Contents.{root, item, attrs_of, above}
+use Rattle.card.specs.Contents.{Item, Attr, root, element, text, item, attrs_of, above}
 use Rattle.card.specs.Tables.{Entries, entries, node, run_in, item_by, attr_of, contents}
 use Rattle.card.specs.TableOrder.{in_use, attribute_in_order, filled, follows_on, parented}
 use Rattle.card.proofs.Checked.{item_at, length_contents, passes}
@@ -19,7 +20,7 @@ use Rattle.card.proofs.Upward.{past_end, root_is, not_root}
 use Rattle.card.proofs.Within.{orphan_way}
 use Rattle.order.specs.Checks.{SoundCard}
 use Rattle.document.specs.declared.document.Document.{Document}
-use Rattle.document.specs.Reads.{card_of, kind_at, is_element_item, is_element, Leads}
+use Rattle.document.specs.Reads.{card_of, node_at, kind_at, is_element_item, is_element, Leads}
 use Rattle.document.specs.Said.{first_passing, entry_named, named, attribute}
 use Rattle.document.proofs.Firsts.{first_mapped}
 use Rattle.document.proofs.Passed.{sound}
@@ -50,6 +51,24 @@ module _ (d : Document) where
       (λ l. item_at tables_of d.counts k sound_of.whole.nodes l ∙ ap (item_by tables_of (unwrap_or (node tables_of k).parent 0)) (sym (q ∙ cond-true (ltb k d.counts.nodes) (node tables_of k).kind kind.Root (lt-ltb k d.counts.nodes l))))
       (λ l. past_nodes k l ∙ ap (item_by tables_of (unwrap_or (node tables_of k).parent 0)) (sym (q ∙ cond-false (ltb k d.counts.nodes) (node tables_of k).kind kind.Root (le-ltb k d.counts.nodes l))))
       (cases_lt k d.counts.nodes)
+
+  -- what f says of an item whose kind is no element's, or no text's
+  module _ {Y : Type 0} (f : Item → Y) (y : Y) (k : ℕ) (x : NodeKind) (q : x ≡ kind_at tables_of d.counts k) where
+    pub no_element : ((t : EId) (run : Run) → x ≡ kind.Element t run → ⊥) → f root ≡ y → ((p : ℕ) (bytes : List ℕ) → f (text p bytes) ≡ y) → y ≡ f (item (card_of d) k)
+    no_element h r t = sym (ap f (item_is k x q) ∙ go x h)
+      where
+        go : (z : NodeKind) → ((t : EId) (run : Run) → z ≡ kind.Element t run → ⊥) → f (item_by tables_of (unwrap_or (node tables_of k).parent 0) z) ≡ y
+        go kind.Root n = r
+        go (kind.Element u run) n = absurd (n u run refl)
+        go (kind.Text run) n = t _ _
+
+    pub no_text : ((run : Run) → x ≡ kind.Text run → ⊥) → f root ≡ y → ((p : ℕ) (t : EId) (attrs : List Attr) → f (element p t attrs) ≡ y) → y ≡ f (item (card_of d) k)
+    no_text h r e = sym (ap f (item_is k x q) ∙ go x h)
+      where
+        go : (z : NodeKind) → ((run : Run) → z ≡ kind.Text run → ⊥) → f (item_by tables_of (unwrap_or (node tables_of k).parent 0) z) ≡ y
+        go kind.Root n = r
+        go (kind.Element u run) n = e _ _ _
+        go (kind.Text run) n = absurd (n run refl)
 
   -- a node that is not the root is one of those used
   used : (k : ℕ) (x : NodeKind) → (x ≡ kind.Root → ⊥) → x ≡ kind_at tables_of d.counts k → (k < d.counts.nodes) × ((node tables_of k).kind ≡ x)
@@ -122,6 +141,20 @@ module _ (d : Document) where
       by_kind kind.Root i = absurd (not_root (contents tables_of d.counts) (suc k) (omega arith) (sound_of.order.each (suc k) l).place i)
       by_kind (kind.Element t run) i = sym (ap (λ it. cond (is_element_item it) (suc k ∷ above (contents tables_of d.counts) p) (above (contents tables_of d.counts) p)) i)
       by_kind (kind.Text run) i = sym (ap (λ it. cond (is_element_item it) (suc k ∷ above (contents tables_of d.counts) p) (above (contents tables_of d.counts) p)) i)
+
+  pub leads_nowhere : (k : ℕ) → None ≡ node_at tables_of d.counts k → Leads (card_of d) k None
+  leads_nowhere k h =
+      ⊎_elim
+      (λ l. absurd (let e = cond-true (ltb k d.counts.nodes) (Some (node tables_of k)) None (lt-ltb k d.counts.nodes l) in let z : ◌≡◌ {A = ℕ} 0 1 = cc in omega arith))
+      (λ l. leads_past k l)
+      (cases_lt k d.counts.nodes)
+
+  pub leads_on : (k : ℕ) (x : NodeData) → Some x ≡ node_at tables_of d.counts k → Leads (card_of d) k x.parent
+  leads_on k x h =
+      ⊎_elim
+      (λ l. let e = cond-true (ltb k d.counts.nodes) (Some (node tables_of k)) None (lt-ltb k d.counts.nodes l) in let same : node tables_of k ≡ x = cc in leads k x.parent l (ap (λ (n : NodeData). n.parent) same))
+      (λ l. absurd (let e = cond-false (ltb k d.counts.nodes) (Some (node tables_of k)) None (le-ltb k d.counts.nodes l) in let z : ◌≡◌ {A = ℕ} 0 1 = cc in omega arith))
+      (cases_lt k d.counts.nodes)
 
   -- at most 64 elements lie from a number upward
   pub shallow : (k : ℕ) → length (above (card_of d) k) ≤ 64

@@ -3,6 +3,7 @@ use Rattle.std.specs.Prelude.{◌≡◌, ℕ, ◌<◌, Bool, true, false, cond, 
 use Rattle.names.specs.declared.EId.{EId}
 use Rattle.card.specs.declared.record.NodeKind.{NodeKind}
 use Rattle.card.specs.declared.record.NodeKind.TheVariants as kind
+use Rattle.card.specs.declared.record.NodeData.{NodeData}
 use Rattle.card.specs.declared.record.TableCounts.{TableCounts}
 use Rattle.card.specs.Contents.{Item, root, element, text, Card, item, parent, above}
 use Rattle.card.specs.Tables.{Entries, entries, node, contents}
@@ -11,6 +12,10 @@ use Rattle.document.specs.declared.document.Document.{Document}
 -- what a document holds
 unfoldable pub card_of : Document → Card
 card_of d = contents (entries d.tables) d.counts
+
+-- the node of a number, if it is one
+abbrev pub node_at : Entries → TableCounts → ℕ → Option NodeData
+node_at e c k = cond (nat_lt k c.nodes) (Some (node e k)) None
 
 -- the kind of a node; a number that is none is as the root
 abbrev pub kind_at : Entries → TableCounts → ℕ → NodeKind

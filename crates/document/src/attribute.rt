@@ -17,12 +17,10 @@ use names::AId;
 fn first_named(attributes: &[Attribute], name: AId) -> Option<Attribute>
     ensures { result ≡ first_passing (entry_named name) attributes.now }
 {
-    for attribute in attributes {
-        if attribute.name.is(name) {
-            return Some(*attribute);
-        }
-    }
-    None
+    attributes
+        .iter()
+        .copied()
+        .find(|attribute| attribute.name.is(name))
 }
 
 impl<'a> Document<'a> {
@@ -32,9 +30,8 @@ impl<'a> Document<'a> {
         ensures in_order { all (attribute_in_order (entries self.entry.tables) self.entry.counts) result.now ≡ true }
     {
         match self.kind(k) {
-            NodeKind::Root => &[],
-            NodeKind::Element { tag: _, attributes } => part(self.tables.attributes, attributes),
-            NodeKind::Text(_) => &[],
+            NodeKind::Element { attributes, .. } => part(self.tables.attributes, attributes),
+            _ => &[],
         }
     }
 

@@ -3,10 +3,10 @@ ghost use Rattle.std.specs.Prelude.{◌≡◌, ◌≤◌, true, length, is_ok};
 ghost use Rattle.card.specs.Contents.{item, bytes_of, is_text};
 ghost use Rattle.card.specs.Tables.{entries, contents, run_in};
 ghost use Rattle.order.specs.Checks.{card_checked};
-ghost use Rattle.document.specs.Reads.{card_of, kind_at, tag_of, is_element, Leads};
+ghost use Rattle.document.specs.Reads.{card_of, node_at, kind_at, tag_of, is_element, Leads};
 
 use crate::document::Document;
-use card::{NodeKind, Run, TableCounts, Tables};
+use card::{NodeData, NodeKind, Run, TableCounts, Tables};
 use names::EId;
 
 // The entries of a run.
@@ -34,14 +34,21 @@ impl<'a> Document<'a> {
         nodes
     }
 
+    // The node of a number, if it is one.
+    fn node(self, k: u32) -> Option<NodeData>
+        ensures { result ≡ node_at (entries self.entry.tables) self.entry.counts k }
+    {
+        if k as usize >= self.counts.nodes {
+            return None;
+        }
+        Some(self.tables.nodes[k as usize])
+    }
+
     // What a node is.
     pub(crate) fn kind(self, k: u32) -> NodeKind
         ensures { result ≡ kind_at (entries self.entry.tables) self.entry.counts k }
     {
-        if k as usize >= self.counts.nodes {
-            return NodeKind::Root;
-        }
-        self.tables.nodes[k as usize].kind
+        self.node(k).map_or(NodeKind::Root, |node| node.kind)
     }
 
     /// An element's tag.
@@ -49,9 +56,8 @@ impl<'a> Document<'a> {
         ensures { result ≡ tag_of (item (card_of self.entry) k) }
     {
         match self.kind(k) {
-            NodeKind::Root => None,
-            NodeKind::Element { tag, attributes: _ } => Some(tag),
-            NodeKind::Text(_) => None,
+            NodeKind::Element { tag, .. } => Some(tag),
+            _ => None,
         }
     }
 
@@ -59,22 +65,14 @@ impl<'a> Document<'a> {
     pub fn is_element(self, k: u32) -> bool
         ensures { result ≡ is_element (card_of self.entry) k }
     {
-        match self.kind(k) {
-            NodeKind::Root => false,
-            NodeKind::Element { .. } => true,
-            NodeKind::Text(_) => false,
-        }
+        self.tag(k).is_some()
     }
 
     /// Whether the number is a text.
     pub fn is_text(self, k: u32) -> bool
         ensures { result ≡ is_text (card_of self.entry) k }
     {
-        match self.kind(k) {
-            NodeKind::Root => false,
-            NodeKind::Element { .. } => false,
-            NodeKind::Text(_) => true,
-        }
+        matches!(self.kind(k), NodeKind::Text(_))
     }
 
     /// A text's bytes; none for any other node.
@@ -82,9 +80,8 @@ impl<'a> Document<'a> {
         ensures { result.now ≡ bytes_of (item (card_of self.entry) k) }
     {
         match self.kind(k) {
-            NodeKind::Root => &[],
-            NodeKind::Element { .. } => &[],
             NodeKind::Text(run) => part(self.tables.bytes, run),
+            _ => &[],
         }
     }
 
@@ -92,9 +89,6 @@ impl<'a> Document<'a> {
     pub fn parent(self, k: u32) -> Option<u32>
         ensures { Leads (card_of self.entry) k result }
     {
-        if k as usize >= self.counts.nodes {
-            return None;
-        }
-        self.tables.nodes[k as usize].parent
+        self.node(k)?.parent
     }
 }

@@ -21,12 +21,8 @@ struct AngleLayer;
 fn at_or_last(list: &[Length], i: usize) -> Option<f32>
     ensures { result ≡ at_or_last list.now i }
 {
-    let at = i.min(list.len().saturating_sub(1));
-    if at < list.len() {
-        Some(list[at].number)
-    } else {
-        None
-    }
+    let last = list.len().saturating_sub(1);
+    list.get(i.min(last)).map(|length| length.number)
 }
 
 impl Layer<f32> for AngleLayer {
@@ -34,8 +30,8 @@ impl Layer<f32> for AngleLayer {
 
     fn lay(&self, doc: Document<'_>, e: u32, part: &mut [f32]) {
         if let Some(NumberList(list)) = rotate_list(doc, e) {
-            for i in 0..part.len() {
-                part[i] = at_or_last(list, i).unwrap_or(part[i]);
+            for (i, angle) in part.iter_mut().enumerate() {
+                *angle = at_or_last(list, i).unwrap_or(*angle);
             }
         }
     }

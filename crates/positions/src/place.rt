@@ -24,10 +24,7 @@ struct PositionLayer {
 fn has_lists(doc: Document<'_>, e: u32) -> bool
     ensures { result ≡ has_lists (card_of doc.entry) e }
 {
-    match doc.tag(e) {
-        None => false,
-        Some(tag) => tag.is(EId::Text) || tag.is(EId::Tspan),
-    }
+    matches!(doc.tag(e), Some(EId::Text | EId::Tspan))
 }
 
 // Lays an element's list of one coordinate over its characters, as far as it reaches.
@@ -35,8 +32,8 @@ fn lay_list(doc: Document<'_>, e: u32, axis: Axis, settings: &Settings, part: &m
     ensures { Each (λ j p. put axis p (listed settings.now (card_of doc.entry) axis e j)) part.old part.new }
 {
     if let Some(list) = convert_list(doc, e, axis.name(), settings) {
-        for i in 0..part.len() {
-            part[i] = part[i].put(axis, list.get(i));
+        for (i, position) in part.iter_mut().enumerate() {
+            *position = position.put(axis, list.get(i));
         }
     }
 }

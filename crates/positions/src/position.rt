@@ -49,32 +49,14 @@ impl Position {
     pub(crate) fn put(self, axis: Axis, length: Option<f32>) -> Position
         ensures { result ≡ put axis self length }
     {
-        let Position { x, y, dx, dy } = self;
-        match axis {
-            Axis::X => Position {
-                x: length.or(x),
-                y,
-                dx,
-                dy,
-            },
-            Axis::Y => Position {
-                x,
-                y: length.or(y),
-                dx,
-                dy,
-            },
-            Axis::Dx => Position {
-                x,
-                y,
-                dx: length.or(dx),
-                dy,
-            },
-            Axis::Dy => Position {
-                x,
-                y,
-                dx,
-                dy: length.or(dy),
-            },
-        }
+        let mut position = self;
+        let coordinate = match axis {
+            Axis::X => &mut position.x,
+            Axis::Y => &mut position.y,
+            Axis::Dx => &mut position.dx,
+            Axis::Dy => &mut position.dy,
+        };
+        *coordinate = length.or(*coordinate);
+        position
     }
 }

@@ -7,7 +7,5 @@ pub(crate) fn clear<T: Copy>(table: &mut [T], count: usize, blank: T)
     requires { count ≤ length table.old }
     ensures { PartChanged (λ _ _. blank) 0 count table.old table.new }
 {
-    for i in 0..count {
-        table[i] = blank;
-    }
+    table[..count].fill(blank);
 }

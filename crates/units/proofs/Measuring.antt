@@ -1,5 +1,5 @@
 -- The laws of lengths where they stand.
-use Rattle.std.proofs.Common.{◌≡◌, ℕ, List, map, Some, None, refl, ap, ◌∙◌}
+use Rattle.std.proofs.Common.{◌≡◌, ℕ, List, map, Some, None, Option, unwrap_or, refl, ap, ◌∙◌}
 use lib.Ieee.{Float}
 use Rattle.std.specs.Option.{option_map}
 use Rattle.names.specs.declared.AId.{AId}
@@ -10,7 +10,7 @@ use Rattle.values.specs.Kinds.{as_length, as_lengths}
 use Rattle.units.specs.declared.settings.Settings.{Settings}
 use Rattle.units.specs.Lengths.{length_of, base_for}
 use Rattle.units.specs.Sizes.{size}
-use Rattle.units.specs.Measured.{measured, list_of, measured_or, found_or, resolved}
+use Rattle.units.specs.Measured.{measured, list_of, length_at, measured_or, found_or, resolved}
 
 module _ (s : Settings) (card : Card) (k : ℕ) (name : AId) where
   pub measured_is : (l : Length) → length_of s (size s card k) (base_for s name) l ≡ measured s card k name l
@@ -32,10 +32,10 @@ module _ (s : Settings) (card : Card) (k : ℕ) (name : AId) (default : Float) w
   unfolding resolved
   resolved_nowhere e = ap (found_or s card name default) e
 
-  pub resolved_unread : (e : ℕ) → Some e ≡ closest card k name → None ≡ own as_length card e name → default ≡ resolved s card k name default
+  pub resolved_found : (e : ℕ) → Some e ≡ closest card k name → unwrap_or (length_at s card e name) default ≡ resolved s card k name default
   unfolding resolved
-  resolved_unread e q h = ap (measured_or s card e name default) h ∙ ap (found_or s card name default) q
-
-  pub resolved_found : (e : ℕ) (l : Length) → Some e ≡ closest card k name → Some l ≡ own as_length card e name → measured s card e name l ≡ resolved s card k name default
-  unfolding resolved
-  resolved_found e l q h = ap (measured_or s card e name default) h ∙ ap (found_or s card name default) q
+  resolved_found e q = go (own as_length card e name) ∙ ap (found_or s card name default) q
+    where
+      go : (o : Option Length) → unwrap_or (option_map (measured s card e name) o) default ≡ measured_or s card e name default o
+      go None = refl
+      go (Some l) = refl

@@ -26,6 +26,10 @@ list_of s card e name = option_map (map (measured s card e name)) (own as_length
 abbrev pub list_shown : ConvertedList → List Float
 list_shown c = map (length_of c.settings c.size c.base) c.lengths.now
 
+-- an element's own length
+abbrev pub length_at : Settings → Card → ℕ → AId → Option Float
+length_at s card e name = option_map (measured s card e name) (own as_length card e name)
+
 -- a length found at an element, else the default
 abbrev pub measured_or : Settings → Card → ℕ → AId → Float → Option Length → Float
 measured_or s card e name default None = default

@@ -30,10 +30,7 @@ pub fn convert_length(length: Length, settings: &Settings, size: f32, base: f32)
     ensures answer { result ≡ length_of settings.now size base length }
     ensures each_literal_is_the_nearest_f32 { Constants }
 {
-    match absolute_length(length, settings.dpi, size) {
-        Some(x) => x,
-        None => base * length.number / 100.0,
-    }
+    absolute_length(length, settings.dpi, size).unwrap_or(base * length.number / 100.0)
 }
 
 // What a percent of an attribute is of.

@@ -3,7 +3,7 @@ ghost use Rattle.std.specs.Prelude.{◌≡◌, length};
 ghost use Rattle.std.specs.Option.{option_map};
 ghost use Rattle.std.specs.List.{slice_get};
 ghost use Rattle.document.specs.Reads.{card_of};
-ghost use Rattle.units.specs.Measured.{measured, list_of, list_shown, resolved};
+ghost use Rattle.units.specs.Measured.{length_at, list_of, list_shown, resolved};
 
 use crate::length::{convert_length, percent_base};
 use crate::settings::Settings;
@@ -40,10 +40,8 @@ impl ConvertedList<'_> {
             size,
             base,
         } = self;
-        if i >= lengths.len() {
-            return None;
-        }
-        Some(convert_length(lengths[i], &settings, size, base))
+        let length = *lengths.get(i)?;
+        Some(convert_length(length, &settings, size, base))
     }
 }
 
@@ -65,12 +63,14 @@ pub fn convert_list<'a>(
     })
 }
 
-// A length of an attribute of an element.
-fn measure(doc: Document<'_>, k: u32, name: AId, settings: &Settings, length: Length) -> f32
-    ensures { result ≡ measured settings.now (card_of doc.entry) k name length }
+// An element's own length.
+fn own_length(doc: Document<'_>, k: u32, name: AId, settings: &Settings) -> Option<f32>
+    ensures { result ≡ length_at settings.now (card_of doc.entry) k name }
 {
+    let length = attribute::<Length>(doc, k, name)?;
     let size = resolve_font_size(doc, k, settings);
-    convert_length(length, settings, size, percent_base(name, settings))
+    let base = percent_base(name, settings);
+    Some(convert_length(length, settings, size, base))
 }
 
 /// The length of the closest element with the name, whatever its value, if that is one length; else the default.
@@ -86,8 +86,5 @@ pub fn resolve_length(
     let Some(element) = closest_with(doc, k, name) else {
         return default;
     };
-    match attribute::<Length>(doc, element, name) {
-        None => default,
-        Some(length) => measure(doc, element, name, settings, length),
-    }
+    own_length(doc, element, name, settings).unwrap_or(default)
 }

@@ -41,10 +41,7 @@ fn convert_named_font_size(word: NamedSize, settings: &Settings, around: f32) ->
 fn convert_font_length(length: Length, settings: &Settings, around: f32) -> f32
     ensures { result ≡ size_by_length settings.now around length }
 {
-    match absolute_length(length, settings.dpi, around) {
-        Some(x) => x,
-        None => length.number * around * 0.01,
-    }
+    absolute_length(length, settings.dpi, around).unwrap_or(length.number * around * 0.01)
 }
 
 // What an element's own font-size makes of the size around it.

@@ -1,16 +1,13 @@
-use Rattle.std.proofs.Common.{map, sym, refl, ap, ◌∙◌}
+use Rattle.std.proofs.Common.{[], map, sym, refl, ap, ◌∙◌}
 use Rattle.card.specs.Contents.{attrs_of}
 use Rattle.card.specs.Lists.{all}
 use Rattle.card.specs.Tables.{attr_of}
 use Rattle.card.specs.TableOrder.{attribute_in_order}
-use Rattle.document.proofs.Items.{item_is, element_run, attributes_in_order, tables_of}
+use Rattle.document.proofs.Items.{item_is, no_element, element_run, attributes_in_order, tables_of}
 use Rattle.document.proofs.document.Document.attributes.Goals as goal
 
 pub part-requires : goal.part-requires
 part-requires c = element_run c.args.self c.args.k _ c.in-Element.attributes c.in-Element.ensures
-
-pub returns-in-Root : goal.returns-in-Root
-returns-in-Root c = record { contents = sym (ap attrs_of (item_is c.args.self c.args.k _ c.in-Root.ensures)); in_order = refl }
 
 pub returns-in-Element : goal.returns-in-Element
 returns-in-Element c =
@@ -19,5 +16,5 @@ returns-in-Element c =
       in_order = ap (all (attribute_in_order (tables_of c.args.self) c.args.self.counts)) c.part.ensures ∙ attributes_in_order c.args.self c.args.k _ c.in-Element.attributes c.in-Element.ensures;
     }
 
-pub returns-in-Text : goal.returns-in-Text
-returns-in-Text c = record { contents = sym (ap attrs_of (item_is c.args.self c.args.k _ c.in-Text.ensures)); in_order = refl }
+pub returns-in_default : goal.returns-in_default
+returns-in_default c = record { contents = no_element c.args.self attrs_of [] c.args.k c.kind.result c.kind.ensures c.in_default.not-Element refl (λ _ _. refl); in_order = refl }

@@ -1,13 +1,13 @@
-use Rattle.std.proofs.Common.{sym, ap}
-use Rattle.document.specs.Reads.{is_element_item}
-use Rattle.document.proofs.Items.{item_is}
+use Rattle.std.proofs.Common.{◌≡◌, is_some, refl, ap, ◌∙◌}
+use Rattle.card.specs.Contents.{Item, root, element, text, item}
+use Rattle.document.specs.Reads.{card_of, tag_of, is_element_item}
 use Rattle.document.proofs.document.Document.is_element.Goals as goal
 
-pub returns-in-Root : goal.returns-in-Root
-returns-in-Root c = sym (ap is_element_item (item_is c.args.self c.args.k _ c.in-Root.ensures))
+-- only an element has a tag
+tagged : (it : Item) → is_some (tag_of it) ≡ is_element_item it
+tagged root = refl
+tagged (element p t attrs) = refl
+tagged (text p bytes) = refl
 
-pub returns-in-Element : goal.returns-in-Element
-returns-in-Element c = sym (ap is_element_item (item_is c.args.self c.args.k _ c.in-Element.ensures))
-
-pub returns-in-Text : goal.returns-in-Text
-returns-in-Text c = sym (ap is_element_item (item_is c.args.self c.args.k _ c.in-Text.ensures))
+pub returns : goal.returns
+returns c = c.is_some.ensures ∙ ap is_some c.tag.ensures ∙ tagged (item (card_of c.args.self) c.args.k)

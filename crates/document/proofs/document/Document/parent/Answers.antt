@@ -1,12 +1,10 @@
-use Rattle.std.proofs.Common.{refl, arith}
-use Rattle.document.proofs.Items.{in_table, leads, leads_past}
+use Rattle.std.proofs.Common.{sym, subst, ◌∙◌}
+use Rattle.document.specs.Reads.{card_of, Leads}
+use Rattle.document.proofs.Items.{leads_nowhere, leads_on}
 use Rattle.document.proofs.document.Document.parent.Goals as goal
 
-pub returns-then-k-self : goal.returns-then-k-self
-returns-then-k-self c = leads_past c.args.self c.args.k (omega arith)
-
-pub bounds-self-k : goal.bounds-self-k
-bounds-self-k c = in_table c.args.self c.args.k (omega arith)
+pub returns-in_err-node : goal.returns-in_err-node
+returns-in_err-node c = subst (Leads (card_of c.args.self) c.args.k) (sym c.from_residual.ensures) (leads_nowhere c.args.self c.args.k c.in_err-node.ensures)
 
 pub returns : goal.returns
-returns c = leads c.args.self c.args.k _ (omega arith) refl
+returns c = leads_on c.args.self c.args.k c.in_ok-node.field-0 c.in_ok-node.ensures

@@ -1,13 +1,10 @@
-use Rattle.std.proofs.Common.{sym, ap}
+use Rattle.std.proofs.Common.{None, sym, refl, ap}
 use Rattle.document.specs.Reads.{tag_of}
-use Rattle.document.proofs.Items.{item_is}
+use Rattle.document.proofs.Items.{item_is, no_element}
 use Rattle.document.proofs.document.Document.tag.Goals as goal
-
-pub returns-in-Root : goal.returns-in-Root
-returns-in-Root c = sym (ap tag_of (item_is c.args.self c.args.k _ c.in-Root.ensures))
 
 pub returns-in-Element : goal.returns-in-Element
 returns-in-Element c = sym (ap tag_of (item_is c.args.self c.args.k _ c.in-Element.ensures))
 
-pub returns-in-Text : goal.returns-in-Text
-returns-in-Text c = sym (ap tag_of (item_is c.args.self c.args.k _ c.in-Text.ensures))
+pub returns-in_default : goal.returns-in_default
+returns-in_default c = no_element c.args.self tag_of None c.args.k c.kind.result c.kind.ensures c.in_default.not-Element refl (λ _ _. refl)
