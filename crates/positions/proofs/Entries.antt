@@ -1,8 +1,8 @@
 -- A table that a loop changes entry by entry.
-use Rattle.std.proofs.Common.{◌≡◌, ℕ, ◌+◌, ◌-◌, ◌<◌, ◌≤◌, List, map, length, get_or, drop, set, sym, refl, ap, ◌∙◌, subst, ⊎_elim, zero-add, arith, length-append, length-drop}
+use Rattle.std.proofs.Common.{◌≡◌, ℕ, ◌+◌, ◌-◌, ◌<◌, ◌≤◌, List, ◌++◌, map, length, get_or, take, drop, set, replicate, sym, refl, ap, ◌∙◌, subst, ⊎_elim, zero-add, arith, length-append, length-drop}
 use Rattle.std.specs.List.{range_with_len}
 use Rattle.std.proofs.lemmas.List.FromFn.{length-map-range_with_len, get_or-map-range_with_len}
-use Rattle.std.proofs.lemmas.List.{get_or_default, get_or-set_same, get_or-set_other, length-set, get_or_append_left, get_or-append_right, get_or-drop, same_lists}
+use Rattle.std.proofs.lemmas.List.{get_or_default, get_or-set_same, get_or-set_other, length-set, get_or_append_left, get_or-append_right, get_or-drop, get_or-replicate, length-replicate, length-take-le, same_lists}
 use Rattle.std.proofs.lemmas.Bool.{cases_lt}
 use Rattle.positions.specs.Stacked.{Each}
 use Rattle.positions.specs.Part.{PartChanged}
@@ -33,15 +33,19 @@ module _ {X : Type 0} (change : ℕ → X → X) where
   pub partly_all : (i : ℕ) (before after : List X) → length before ≤ i → Partly change i before after → Each change before after
   partly_all i before after l p = record { long = p.long; entry = λ k d u. p.done k d (omega arith) }
 
-  -- the front was
-  pub partly_front : (i : ℕ) (before after : List X) → Partly change i before after → PartChanged change 0 i before after
-  partly_front i before after p =
-      record {
-        long = p.long;
-        inside = λ k d l u. p.done k d (omega arith) ∙ ap (λ j. change j (get_or before k d)) (let z : k ≡ k - 0 = omega arith in z);
-        earlier = λ k d l. absurd (omega arith);
-        later = λ k d l. p.todo k d (omega arith);
-      }
+-- a table whose front was overwritten with the same
+pub front_filled : {X : Type 0} (blank : X) (n : ℕ) (before front : List X) → n ≤ length before → front ≡ replicate (length (take n before)) blank → PartChanged (λ j x. blank) 0 n before (front ++ drop n before)
+front_filled blank n before front room by_fill =
+    let e : front ≡ replicate n blank = by_fill ∙ ap (λ m. replicate m blank) (length-take-le n before room) in
+    let f : length front ≡ n = ap length e ∙ length-replicate n blank in
+    let a = length-append front (drop n before) in
+    let b = length-drop n before in
+    record {
+      long = omega arith;
+      inside = λ k d l u. get_or_append_left front (drop n before) d k (omega arith) ∙ ap (λ xs. get_or xs k d) e ∙ get_or-replicate n k blank d (omega arith);
+      earlier = λ k d l. absurd (omega arith);
+      later = λ k d l. let q : n + (k - n) ≡ k = omega arith in get_or-append_right front (drop n before) n k d f (omega arith) ∙ get_or-drop n before (k - n) d ∙ ap (λ j. get_or before j d) q;
+    }
 
 -- a change by another name
 pub each_alike : {X : Type 0} (f g : ℕ → X → X) (before after : List X) → ((j : ℕ) (x : X) → f j x ≡ g j x) → Each f before after → Each g before after

@@ -7,7 +7,6 @@ ghost use Rattle.positions.specs.Innermost.{filled};
 ghost use Rattle.positions.specs.Angles.{at_or_last, turned, angles};
 
 use crate::layer::{Layer, lay_all};
-use crate::table::clear;
 use card::Length;
 use characters::count_chars_below;
 use document::Document;
@@ -21,8 +20,8 @@ struct AngleLayer;
 fn at_or_last(list: &[Length], i: usize) -> Option<f32>
     ensures { result ≡ at_or_last list.now i }
 {
-    let last = list.len().saturating_sub(1);
-    list.get(i.min(last)).map(|length| length.number)
+    let at = i.min(list.len().saturating_sub(1));
+    Some(list.get(at)?.number)
 }
 
 impl Layer<f32> for AngleLayer {
@@ -44,6 +43,6 @@ pub fn resolve_rotate_list(doc: Document<'_>, c: u32, table: &mut [f32])
     ensures { table.new ≡ filled table.old (angles (card_of doc.entry) c) }
 {
     let count = count_chars_below(doc, c);
-    clear(table, count, 0.0);
+    table[..count].fill(0.0);
     lay_all(&AngleLayer, doc, c, table);
 }

@@ -5,7 +5,6 @@ mod angle;
 mod layer;
 mod place;
 mod position;
-mod table;
 
 pub use angle::resolve_rotate_list;
 pub use place::resolve_positions_list;

@@ -7,8 +7,7 @@ ghost use Rattle.positions.specs.Innermost.{filled};
 ghost use Rattle.positions.specs.Positions.{has_lists, listed, put, replaced, positions};
 
 use crate::layer::{Layer, lay_all};
-use crate::position::{Axis, NOWHERE, Position};
-use crate::table::clear;
+use crate::position::{Axis, Position};
 use characters::count_chars_below;
 use document::Document;
 use names::EId;
@@ -63,7 +62,7 @@ pub fn resolve_positions_list(
     ensures { table.new ≡ filled table.old (positions settings.now (card_of doc.entry) c) }
 {
     let count = count_chars_below(doc, c);
-    clear(table, count, NOWHERE);
+    table[..count].fill(Position::default());
     let layer = PositionLayer {
         settings: *settings,
     };

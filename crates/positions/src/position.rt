@@ -5,7 +5,7 @@ ghost use Rattle.positions.specs.Positions.{name_of, put};
 use names::AId;
 
 /// Where a character stands, and by how much it is shifted, as far as that is said.
-#[derive(Clone, Copy)]
+#[derive(Clone, Copy, Default)]
 pub struct Position {
     pub x: Option<f32>,
     pub y: Option<f32>,
@@ -21,14 +21,6 @@ pub(crate) enum Axis {
     Dx,
     Dy,
 }
-
-/// A position of which nothing is said.
-pub(crate) const NOWHERE: Position = Position {
-    x: None,
-    y: None,
-    dx: None,
-    dy: None,
-};
 
 impl Axis {
     /// The attribute that lists this coordinate.
@@ -50,13 +42,12 @@ impl Position {
         ensures { result ≡ put axis self length }
     {
         let mut position = self;
-        let coordinate = match axis {
-            Axis::X => &mut position.x,
-            Axis::Y => &mut position.y,
-            Axis::Dx => &mut position.dx,
-            Axis::Dy => &mut position.dy,
-        };
-        *coordinate = length.or(*coordinate);
+        match axis {
+            Axis::X => position.x = length.or(self.x),
+            Axis::Y => position.y = length.or(self.y),
+            Axis::Dx => position.dx = length.or(self.dx),
+            Axis::Dy => position.dy = length.or(self.dy),
+        }
         position
     }
 }
