@@ -18,7 +18,7 @@ pub(crate) struct LentTable<T> {
 impl<T: Copy> LentTable<T> {
     // A table of so many entries, all alike.
     fn new(heap: Global, entry: T, size: usize, limit: usize) -> Result<LentTable<T>, AllocError> {
-        let entries = filled(heap, entry, size.min(limit))?;
+        let entries = vec![in heap; entry; size.min(limit)]?;
         Ok(LentTable { entries, size })
     }
 
@@ -49,15 +49,6 @@ pub(crate) struct Lent {
     pub(crate) attributes: LentTable<Attribute>,
     pub(crate) bytes: LentTable<u8>,
     pub(crate) lengths: LentTable<Length>,
-}
-
-/// So many entries, all alike.
-pub(crate) fn filled<T: Copy>(heap: Global, entry: T, count: usize) -> Result<Vec<T>, AllocError> {
-    let mut entries = Vec::new(heap);
-    for _ in 0..count {
-        entries.push(entry)?;
-    }
-    Ok(entries)
 }
 
 impl Lent {

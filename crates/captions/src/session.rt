@@ -1,11 +1,11 @@
 //! A session: one card in four lent tables, and what each call on it answers.
 use crate::answer::{Answer, NoAnswer};
-use crate::lent::{Lent, filled};
+use crate::lent::Lent;
 use crate::line::{Line, read_line};
-use card::{MAX_ATTRIBUTES, MAX_BYTES, MAX_LENGTHS, MAX_NODES, TableCounts, Value};
+use card::{MAX_ATTRIBUTES, MAX_BYTES, MAX_LENGTHS, MAX_NODES, TableCounts, Tables, Value};
 use names::{AId, EId};
 use std::alloc::{AllocError, Global};
-use std::mem::replace;
+use std::mem::take;
 use svgtree::{Draft, Sealed};
 
 // Largest tables, for a script that lends none of its own.
@@ -17,8 +17,9 @@ const LARGEST: TableCounts = TableCounts {
 };
 
 // The card of a session, if there is one.
-#[derive(Drop)]
+#[derive(Default, Drop)]
 enum Card {
+    #[default]
     Missing,
     Drafting(Draft),
     Ready(Sealed),
@@ -38,6 +39,28 @@ impl Card {
         match self {
             Card::Drafting(draft) => Ok(draft),
             _ => Err(NoAnswer::NotNow),
+        }
+    }
+
+    // Where the draft is refused it stays.
+    fn seal(self, tables: Tables<'_>) -> (Card, Result<Answer, NoAnswer>) {
+        match self {
+            Card::Drafting(draft) => match draft.seal(tables) {
+                Ok(sealed) => (Card::Ready(sealed), Ok(Answer::Sealed)),
+                Err((draft, fault)) => (Card::Drafting(draft), Err(fault.into())),
+            },
+            other => (other, Err(NoAnswer::NotNow)),
+        }
+    }
+
+    // Where the sealed card is refused it stays.
+    fn reopen(self, tables: Tables<'_>) -> (Card, Result<Answer, NoAnswer>) {
+        match self {
+            Card::Ready(sealed) => match sealed.reopen(tables) {
+                Ok(draft) => (Card::Drafting(draft), Ok(Answer::Reopened)),
+                Err((sealed, fault)) => (Card::Ready(sealed), Err(fault.into())),
+            },
+            other => (other, Err(NoAnswer::NotNow)),
         }
     }
 }
@@ -133,52 +156,23 @@ impl Session {
         Ok(Answer::Closed(node))
     }
 
-    // Where a seal or a reopening is refused, the card is handed back and stays.
     fn seal(&mut self) -> Result<Answer, NoAnswer> {
-        let draft = match replace(&mut self.card, Card::Missing) {
-            Card::Drafting(draft) => draft,
-            other => {
-                self.card = other;
-                return Err(NoAnswer::NotNow);
-            }
-        };
-        match draft.seal(self.lent.tables()) {
-            Ok(sealed) => {
-                self.card = Card::Ready(sealed);
-                Ok(Answer::Sealed)
-            }
-            Err((draft, fault)) => {
-                self.card = Card::Drafting(draft);
-                Err(fault.into())
-            }
-        }
+        let (card, answer) = take(&mut self.card).seal(self.lent.tables());
+        self.card = card;
+        answer
     }
 
     fn reopen(&mut self) -> Result<Answer, NoAnswer> {
-        let sealed = match replace(&mut self.card, Card::Missing) {
-            Card::Ready(sealed) => sealed,
-            other => {
-                self.card = other;
-                return Err(NoAnswer::NotNow);
-            }
-        };
-        match sealed.reopen(self.lent.tables()) {
-            Ok(draft) => {
-                self.card = Card::Drafting(draft);
-                Ok(Answer::Reopened)
-            }
-            Err((sealed, fault)) => {
-                self.card = Card::Ready(sealed);
-                Err(fault.into())
-            }
-        }
+        let (card, answer) = take(&mut self.card).reopen(self.lent.tables());
+        self.card = card;
+        answer
     }
 
     fn texts(&self, room: usize) -> Result<Answer, NoAnswer> {
         let Card::Ready(sealed) = &self.card else {
             return Err(NoAnswer::NotNow);
         };
-        let mut list = filled(self.heap, 0u32, room.min(MAX_NODES))?;
+        let mut list = vec![in self.heap; 0u32; room.min(MAX_NODES)]?;
         let count = sealed.texts(self.lent.tables(), list.as_mut_slice())?;
         list.truncate(count);
         list.sort_unstable();

@@ -12,7 +12,7 @@ pub(crate) fn check_text_element(doc: Document<'_>, k: u32) -> Result<(), Fault>
     ensures { result ≡ text_checked (card_of doc.entry) k }
 {
     match doc.tag(k) {
-        Some(tag) if tag.is(EId::Text) => Ok(()),
+        Some(EId::Text) => Ok(()),
         _ => Err(Fault::NotTextElement(k)),
     }
 }
