@@ -30,8 +30,8 @@ pub fn subtree_end(doc: Document<'_>, e: u32) -> u32
     nodes
 }
 
-// How many characters a number has as a text: none, if it is no text.
-fn count_chars_in(doc: Document<'_>, k: u32) -> usize
+/// How many characters a number has as a text: none, if it is no text.
+pub fn count_chars_in(doc: Document<'_>, k: u32) -> usize
     ensures { result ≡ char_count (card_of doc.entry) k }
 {
     count_chars(doc.text(k))

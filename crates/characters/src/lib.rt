@@ -4,5 +4,5 @@
 mod below;
 mod text;
 
-pub use below::{count_chars_below, subtree_end};
+pub use below::{count_chars_below, count_chars_in, subtree_end};
 pub use text::{char_len, count_chars};

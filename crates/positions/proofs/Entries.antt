@@ -1,5 +1,5 @@
 -- A table that a loop changes entry by entry.
-use Rattle.std.proofs.Common.{◌≡◌, ℕ, ◌+◌, ◌-◌, ◌<◌, ◌≤◌, List, ◌++◌, map, length, get_or, take, drop, set, replicate, sym, refl, ap, ◌∙◌, subst, ⊎_elim, zero-add, arith, length-append, length-drop}
+use Rattle.std.proofs.Common.{◌≡◌, ℕ, ◌+◌, ◌-◌, ◌<◌, ◌≤◌, List, ◌++◌, map, length, get_or, take, drop, set, replicate, sym, ap, ◌∙◌, subst, ⊎_elim, zero-add, arith, length-append, length-drop}
 use Rattle.std.specs.List.{range_with_len}
 use Rattle.std.proofs.lemmas.List.FromFn.{length-map-range_with_len, get_or-map-range_with_len}
 use Rattle.std.proofs.lemmas.List.{get_or_default, get_or-set_same, get_or-set_other, length-set, get_or_append_left, get_or-append_right, get_or-drop, get_or-replicate, length-replicate, length-take-le, same_lists}
@@ -15,9 +15,6 @@ pub record Partly {X : Type 0} (change : ℕ → X → X) (i : ℕ) (before afte
   pub todo : (k : ℕ) (d : X) → i ≤ k → get_or after k d ≡ get_or before k d
 
 module _ {X : Type 0} (change : ℕ → X → X) where
-  pub partly_none : (xs : List X) → Partly change 0 xs xs
-  partly_none xs = record { long = refl; done = λ k d l. absurd (omega arith); todo = λ k d l. refl }
-
   pub partly_more : (i : ℕ) (before after : List X) (v b : X) → i < length after → v ≡ change i (get_or after i b) → Partly change i before after → Partly change (i + 1) before (set after i v)
   partly_more i before after v b l e p =
       record {
@@ -28,10 +25,6 @@ module _ {X : Type 0} (change : ℕ → X → X) where
             (cases_lt k i);
         todo = λ k d u. get_or-set_other after i k v d (λ z. omega arith) ∙ p.todo k d (omega arith);
       }
-
-  -- all entries were
-  pub partly_all : (i : ℕ) (before after : List X) → length before ≤ i → Partly change i before after → Each change before after
-  partly_all i before after l p = record { long = p.long; entry = λ k d u. p.done k d (omega arith) }
 
 -- a table whose front was overwritten with the same
 pub front_filled : {X : Type 0} (blank : X) (n : ℕ) (before front : List X) → n ≤ length before → front ≡ replicate (length (take n before)) blank → PartChanged (λ j x. blank) 0 n before (front ++ drop n before)
@@ -54,10 +47,6 @@ each_alike f g before after h e = record { long = e.long; entry = λ i d l. e.en
 -- one change after another
 pub each_then : {X : Type 0} (f g : ℕ → X → X) (before mid after : List X) → Each f before mid → Each g mid after → Each (λ j x. g j (f j x)) before after
 each_then f g before mid after p q = record { long = q.long ∙ p.long; entry = λ i d l. q.entry i d (let n = p.long in omega arith) ∙ ap (g i) (p.entry i d l) }
-
--- no change at all
-pub each_same : {X : Type 0} (f : ℕ → X → X) (xs : List X) → ((j : ℕ) (x : X) → f j x ≡ x) → Each f xs xs
-each_same f xs h = record { long = refl; entry = λ i d l. sym (h i (get_or xs i d)) }
 
 -- a table whose front is known and whose rest stays
 pub filled_by : {X : Type 0} (f : ℕ → X) (n : ℕ) (before after : List X) → length after ≡ length before → n ≤ length before → ((i : ℕ) (d : X) → i < n → get_or after i d ≡ f i) → ((i : ℕ) (d : X) → n ≤ i → get_or after i d ≡ get_or before i d) → after ≡ filled before (map f (range_with_len 0 n))

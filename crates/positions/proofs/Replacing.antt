@@ -1,33 +1,21 @@
 -- What the elements around a character make of its position and of its angle is what the innermost says.
-use Rattle.std.proofs.Common.{◌≡◌, ℕ, true, false, cond, List, [], ◌∷◌, Some, None, Option, unwrap_or, sym, refl, ap, ◌∙◌}
+use Rattle.std.proofs.Common.{◌≡◌, ℕ, true, cond, List, [], ◌∷◌, Some, None, Option, unwrap_or, refl, ap, ◌∙◌}
 use lib.Ieee.{Float}
 use Rattle.std.specs.Option.{option_or}
 use Rattle.card.specs.Contents.{Card, around}
 use Rattle.characters.specs.Characters.{Character}
 use Rattle.units.specs.declared.settings.Settings.{Settings}
 use Rattle.positions.specs.declared.position.Position.{Position}
-use Rattle.positions.specs.declared.position.Axis.{Axis}
 use Rattle.positions.specs.declared.position.Axis.TheVariants as axis
 use Rattle.positions.specs.Stacked.{stacked, number_in, text_of, changed}
 use Rattle.positions.specs.Innermost.{first_some, innermost}
 use Rattle.positions.specs.Positions.{has_lists, listed, laid, nowhere, put, replaced, position}
 use Rattle.positions.specs.Angles.{turned, level, angle}
 
--- a coordinate that is not said stays
-pub put_none : (a : Axis) (p : Position) → put a p None ≡ p
-put_none axis.X p = refl
-put_none axis.Y p = refl
-put_none axis.Dx p = refl
-put_none axis.Dy p = refl
-
 module _ (s : Settings) (card : Card) (e j : ℕ) (p : Position) where
   pub replaced_all : true ≡ has_lists card e → put axis.Dy (put axis.Dx (put axis.Y (put axis.X p (listed s card axis.X e j)) (listed s card axis.Y e j)) (listed s card axis.Dx e j)) (listed s card axis.Dy e j) ≡ replaced s card e j p
   replaced_all h =
       ap (λ b. record { x = option_or (cond b (listed s card axis.X e j) None) p.x; y = option_or (cond b (listed s card axis.Y e j) None) p.y; dx = option_or (cond b (listed s card axis.Dx e j) None) p.dx; dy = option_or (cond b (listed s card axis.Dy e j) None) p.dy }) h
-
-  pub replaced_none : false ≡ has_lists card e → replaced s card e j p ≡ p
-  replaced_none h =
-      ap (λ b. record { x = option_or (cond b (listed s card axis.X e j) None) p.x; y = option_or (cond b (listed s card axis.Y e j) None) p.y; dx = option_or (cond b (listed s card axis.Dx e j) None) p.dx; dy = option_or (cond b (listed s card axis.Dy e j) None) p.dy }) (sym h)
 
 module _ (card : Card) (c : ℕ) (chars : List Character) (i : ℕ) where
   -- the innermost of some elements

@@ -6,7 +6,7 @@ ghost use Rattle.characters.specs.Characters.{characters};
 ghost use Rattle.positions.specs.Stacked.{Each, Changed};
 ghost use Rattle.positions.specs.Part.{PartChanged};
 
-use characters::{count_chars, count_chars_below, subtree_end};
+use characters::{count_chars_below, count_chars_in, subtree_end};
 use document::Document;
 
 /// What an element lays over the entries of its characters.
@@ -46,6 +46,6 @@ pub(crate) fn lay_all<T, L: Layer<T>>(layer: &L, doc: Document<'_>, c: u32, tabl
             let count = count_chars_below(doc, e);
             lay_at(layer, doc, e, offset, count, table);
         }
-        offset += count_chars(doc.text(e));
+        offset += count_chars_in(doc, e);
     }
 }

@@ -1,11 +1,7 @@
-use Rattle.std.proofs.Common.{length, ap, ◌∙◌}
+use Rattle.std.proofs.Common.{ap, ◌∙◌}
 use Rattle.card.specs.Order.{is_utf8}
-use Rattle.characters.specs.Characters.{by_character}
 use Rattle.characters.proofs.Documents.{spelled_text}
 use Rattle.characters.proofs.below.count_chars_in.Goals as goal
 
 pub count_chars-requires : goal.count_chars-requires
 count_chars-requires c = ap is_utf8 c.text.ensures ∙ spelled_text c.args.doc c.args.k
-
-pub returns : goal.returns
-returns c = c.count_chars.ensures ∙ ap (λ bs. length (by_character bs)) c.text.ensures

@@ -1,7 +1,7 @@
 use Rattle.std.proofs.Common.{arith}
 use Rattle.document.specs.Reads.{card_of}
 use Rattle.characters.proofs.Documents.{in_order_of, few_nodes}
-use Rattle.characters.proofs.Subtree.{one_further, lies_between}
+use Rattle.characters.proofs.Subtree.{lies_between}
 use Rattle.characters.proofs.below.subtree_end.Goals as goal
 
 pub overflow_cast-nodes : goal.overflow_cast-nodes
@@ -9,12 +9,6 @@ overflow_cast-nodes c = omega (arith, few_nodes c.args.doc)
 
 pub overflow_step-k : goal.overflow_step-k
 overflow_step-k c = omega (arith, few_nodes c.args.doc)
-
-pub loop-k-init : goal.loop-k-init
-loop-k-init c = λ j a b. absurd (omega arith)
-
-pub loop-k-preserved : goal.loop-k-preserved
-loop-k-preserved c = one_further (card_of c.args.doc) c.args.e c.loop-k.k c.loop-k.invariant (omega arith)
 
 pub returns-then-parent_or_root-e : goal.returns-then-parent_or_root-e
 returns-then-parent_or_root-e c =

@@ -1,8 +1,7 @@
-use Rattle.std.proofs.Common.{◌≡◌, ◌+◌, length, sym, ap, ◌∙◌, arith}
-use Rattle.card.specs.Order.{is_utf8}
+use Rattle.std.proofs.Common.{◌≡◌, ◌+◌, sym, arith}
 use Rattle.document.specs.Reads.{card_of}
-use Rattle.characters.specs.Characters.{char_count, by_character}
-use Rattle.characters.proofs.Documents.{in_order_of, spelled_text, few_of}
+use Rattle.characters.specs.Characters.{char_count}
+use Rattle.characters.proofs.Documents.{in_order_of, few_of}
 use Rattle.characters.proofs.Subtree.{element_within}
 use Rattle.positions.proofs.Beginnings.{first_offset, next_offset, before_few}
 use Rattle.positions.proofs.Laying.{begun, ended, fits, past_other, past_counted}
@@ -31,16 +30,13 @@ lay_at-requires g c =
     let n = c.count_chars_below-count.ensures in
     omega arith
 
-pub count_chars-offset-requires : goal.count_chars-offset-requires
-count_chars-offset-requires g c = ap is_utf8 c.text.ensures ∙ spelled_text c.args.doc c.loop-e.e
-
 pub overflow_add-offset : goal.overflow_add-offset
 overflow_add-offset g c =
     let outer = c.requires.element in
     let lies = c.subtree_end-end.ensures in
     let card = card_of c.args.doc in
     let i = (c.loop-e.invariant outer lies).1 in
-    let n : c.count_chars-offset.result ≡ char_count card c.loop-e.e = c.count_chars-offset.ensures ∙ ap (λ b. length (by_character b)) c.text.ensures in
+    let n : c.count_chars_in-offset.result ≡ char_count card c.loop-e.e = c.count_chars_in-offset.ensures in
     let e = next_offset card c.args.c c.subtree_end-end.result outer lies c.loop-e.e (omega arith) (omega arith) in
     let l = before_few card c.args.c c.subtree_end-end.result outer lies (c.loop-e.e + 1) in
     let u = few_of c.args.doc c.args.c in
@@ -51,7 +47,7 @@ loop-e-preserved g c =
     λ outer lies.
     let card = card_of c.args.doc in
     let i = c.loop-e.invariant outer lies in
-    let n : c.count_chars-offset.result ≡ char_count card c.loop-e.e = c.count_chars-offset.ensures ∙ ap (λ b. length (by_character b)) c.text.ensures in
+    let n : c.count_chars_in-offset.result ≡ char_count card c.loop-e.e = c.count_chars_in-offset.ensures in
     let e = next_offset card c.args.c c.subtree_end-end.result outer lies c.loop-e.e (omega arith) (omega arith) in (
       elim c.if-is_element.branch [
         | then-is_element w ↦ past_counted _ card (in_order_of c.args.doc) c.args.c _ outer lies c.loop-e.e (omega arith) (omega arith) (sym w.if-is_element.ensures) _ _ _ _ _ _ w.table-is i.0 i.1 w.count_chars_below-count.ensures w.lay_at.ensures

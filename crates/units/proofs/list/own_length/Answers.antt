@@ -6,9 +6,6 @@ use Rattle.units.specs.Measured.{measured}
 use Rattle.units.proofs.Measuring.{measured_is}
 use Rattle.units.proofs.list.own_length.Goals as goal
 
-pub returns-in_err-length : goal.returns-in_err-length
-returns-in_err-length c = c.from_residual.ensures ∙ ap (option_map (measured c.args.settings.now (card_of c.args.doc) c.args.k c.args.name)) c.in_err-length.ensures
-
 pub returns : goal.returns
 returns c =
     let s = c.args.settings.now in

@@ -1,4 +1,4 @@
-use Rattle.std.proofs.Common.{sym, subst, ◌∙◌}
+use Rattle.std.proofs.Common.{sym, subst}
 use Rattle.document.specs.Reads.{card_of, Leads}
 use Rattle.document.proofs.Items.{leads_nowhere, leads_on}
 use Rattle.document.proofs.document.Document.parent.Goals as goal
