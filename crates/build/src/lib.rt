@@ -26,10 +26,8 @@ pub fn add_node(nodes: &mut [NodeData], parent: u32, number: u32, kind: NodeKind
     nodes[at].last = Some(number);
     nodes[number as usize] = NodeData {
         parent: Some(parent),
-        next: None,
-        first: None,
-        last: None,
         kind,
+        ..NodeData::default()
     };
 }
 
@@ -52,10 +50,7 @@ pub fn end_attributes(nodes: &mut [NodeData], element: u32, end: u32)
     nodes[at].kind = match node.kind {
         NodeKind::Element { tag, attributes } => NodeKind::Element {
             tag,
-            attributes: Run {
-                start: attributes.start,
-                end,
-            },
+            attributes: Run { end, ..attributes },
         },
         other => other,
     };
@@ -67,22 +62,16 @@ pub fn begin_nodes(nodes: &mut [NodeData])
     ensures { nodes.new ≡ begun_nodes nodes.old }
 {
     nodes[0] = NodeData {
-        parent: None,
-        next: None,
         first: Some(1),
         last: Some(1),
-        kind: NodeKind::Root,
-    };
-    let attributes = Run { start: 0, end: 0 };
-    let kind = NodeKind::Element {
-        tag: EId::Svg,
-        attributes,
+        ..NodeData::default()
     };
     nodes[1] = NodeData {
         parent: Some(0),
-        next: None,
-        first: None,
-        last: None,
-        kind,
+        kind: NodeKind::Element {
+            tag: EId::Svg,
+            attributes: Run::default(),
+        },
+        ..NodeData::default()
     };
 }

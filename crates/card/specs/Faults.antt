@@ -2,6 +2,10 @@
 use Rattle.std.specs.Prelude.{ℕ}
 use Rattle.card.specs.declared.fault.Fault.{Fault}
 use Rattle.card.specs.declared.fault.Fault.TheVariants as fault
+use Rattle.card.specs.declared.fault.Setting.{Setting}
+use Rattle.card.specs.declared.fault.Setting.TheVariants as setting
+use Rattle.card.specs.declared.fault.Table.{Table}
+use Rattle.card.specs.declared.fault.Table.TheVariants as table
 
 -- the number of a refusal
 abbrev pub number_of : Fault → ℕ
@@ -24,9 +28,24 @@ number_of (fault.AnglesShort p) = 21
 number_of (fault.ListShort p) = 23
 number_of fault.WrongTable = 24
 
+-- the number of a table
+abbrev pub number_of_table : Table → ℕ
+number_of_table table.Nodes = 0
+number_of_table table.Attributes = 1
+number_of_table table.Bytes = 2
+number_of_table table.Lengths = 3
+
+-- the index of a setting
+abbrev pub index_of_setting : Setting → ℕ
+index_of_setting setting.Dpi = 0
+index_of_setting setting.Size = 1
+index_of_setting setting.Width = 2
+index_of_setting setting.Height = 3
+index_of_setting setting.Diagonal = 4
+
 -- the place that a refusal names, 0 where there is none
 abbrev pub place_of : Fault → ℕ
-place_of (fault.TableShort p) = p
+place_of (fault.TableShort t) = number_of_table t
 place_of fault.NoRoomToBegin = 0
 place_of (fault.TooDeep p) = p
 place_of (fault.NoNodeEntry p) = p
@@ -39,7 +58,7 @@ place_of (fault.LengthsFull p) = p
 place_of (fault.SvgOpen p) = p
 place_of (fault.StillOpen p) = p
 place_of (fault.OutOfOrder p) = p
-place_of (fault.SettingOutOfRange p) = p
+place_of (fault.SettingOutOfRange s) = index_of_setting s
 place_of (fault.NotTextElement p) = p
 place_of (fault.AnglesShort p) = p
 place_of (fault.ListShort p) = p

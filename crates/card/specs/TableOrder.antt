@@ -1,6 +1,8 @@
 -- When a node of the tables is in order: one test for each condition, and the lowest node where one fails.
-use Rattle.std.specs.Prelude.{◌≡◌, ℕ, zero, suc, ◌+◌, ◌<◌, ◌≤◌, max, Bool, true, false, cond, not, ◌&&◌, [], ◌∷◌, length, is_some, Some, None, Option, ◌==◌, nat_le, nat_lt}
+use Rattle.std.specs.Prelude.{◌≡◌, ℕ, zero, suc, ◌+◌, ◌<◌, ◌≤◌, max, Bool, true, false, cond, not, ◌&&◌, [], ◌∷◌, length, is_some, Some, None, Option, ◌==◌, nat_eq, nat_le, nat_lt}
+use Rattle.std.specs.Option.{option_eq}
 use Rattle.names.specs.EIds as tags
+use Rattle.names.specs.declared.EId.{EId}
 use Rattle.names.specs.declared.EId.TheVariants as tag
 use Rattle.card.specs.declared.record.Run.{Run}
 use Rattle.card.specs.declared.record.Attribute.{Attribute}
@@ -14,10 +16,7 @@ use Rattle.card.specs.Tables.{Entries, node, run_in, reading_of, contents}
 
 -- two links are the same
 abbrev pub same_link : Option ℕ → Option ℕ → Bool
-same_link None None = true
-same_link None (Some b) = false
-same_link (Some a) None = false
-same_link (Some a) (Some b) = a == b
+same_link a b = option_eq nat_eq a b
 
 -- ---- links
 
@@ -62,11 +61,15 @@ is_root_kind kind.Root = true
 is_root_kind (kind.Element t run) = false
 is_root_kind (kind.Text run) = false
 
+-- the node is an element of this tag
+abbrev pub is_tagged : EId → NodeKind → Bool
+is_tagged tag kind.Root = false
+is_tagged tag (kind.Element t run) = tags.same t tag
+is_tagged tag (kind.Text run) = false
+
 -- the node is an `svg` element
 abbrev pub is_svg : NodeKind → Bool
-is_svg kind.Root = false
-is_svg (kind.Element t run) = tags.same t tag.Svg
-is_svg (kind.Text run) = false
+is_svg k = is_tagged tag.Svg k
 
 -- the node is an element
 abbrev pub is_element : NodeKind → Bool

@@ -4,11 +4,30 @@ ghost use Rattle.card.specs.Faults.{number_of, place_of};
 
 use std::fmt;
 
+/// A table of a card.
+#[derive(Clone, Copy, PartialEq, Eq)]
+pub enum Table {
+    Nodes,
+    Attributes,
+    Bytes,
+    Lengths,
+}
+
+/// A setting that lengths and sizes are computed from.
+#[derive(Clone, Copy, PartialEq, Eq)]
+pub enum Setting {
+    Dpi,
+    Size,
+    Width,
+    Height,
+    Diagonal,
+}
+
 /// Why a call is refused, with the place that it names.
 #[derive(Clone, Copy)]
 pub enum Fault {
-    /// A count asks for more than its table has, or than the limit allows: the table, 0 to 3.
-    TableShort(u8),
+    /// A count asks for more than its table has, or than the limit allows: the table.
+    TableShort(Table),
     /// There are fewer than two node entries to begin in.
     NoRoomToBegin,
     /// As many elements are open as may be: the open element.
@@ -33,8 +52,8 @@ pub enum Fault {
     StillOpen(u32),
     /// A node is out of order: the lowest.
     OutOfOrder(u32),
-    /// A setting is not finite and above 0: its index.
-    SettingOutOfRange(u8),
+    /// A setting is not finite and above 0: the setting.
+    SettingOutOfRange(Setting),
     /// The number is no node, or not a `text` element: the number.
     NotTextElement(u32),
     /// The table of angles is too short: the count that is needed.
@@ -78,7 +97,7 @@ impl Fault {
     {
         match self {
             Fault::TableShort(table) => table as usize,
-            Fault::SettingOutOfRange(index) => index as usize,
+            Fault::SettingOutOfRange(setting) => setting as usize,
             Fault::NoRoomToBegin | Fault::WrongTable => 0,
             Fault::TooDeep(node)
             | Fault::NoNodeEntry(node)

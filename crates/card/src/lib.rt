@@ -4,7 +4,7 @@
 mod fault;
 mod record;
 
-pub use fault::Fault;
+pub use fault::{Fault, Setting, Table};
 pub use record::{
     Attribute, Length, MAX_ATTRIBUTES, MAX_BYTES, MAX_DEPTH, MAX_LENGTHS, MAX_NODES, Marks,
     NodeData, NodeKind, Run, TableCounts, Tables, Value,

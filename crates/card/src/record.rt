@@ -1,4 +1,7 @@
 //! The records of a card's tables, and the tables as they are lent.
+ghost use Rattle.std.specs.Prelude.{◌≡◌};
+ghost use Rattle.card.specs.TableOrder.{is_root_kind, is_element, is_tagged};
+
 use names::{AId, EId, LengthUnit};
 
 /// The most entries that a card may use of each table, and the most elements that may lie from a node upward.
@@ -13,7 +16,7 @@ pub const MAX_LENGTHS: usize = 16384;
 pub const MAX_DEPTH: usize = 64;
 
 /// Entries of a table, from `start` up to `end`.
-#[derive(Clone, Copy)]
+#[derive(Clone, Copy, Default)]
 pub struct Run {
     pub start: u32,
     pub end: u32,
@@ -27,7 +30,7 @@ pub struct Length {
 }
 
 /// What else was read in a value: that it is one length, that it is a list of bare numbers.
-#[derive(Clone, Copy)]
+#[derive(Clone, Copy, Default)]
 pub struct Marks {
     pub single: bool,
     pub plain: bool,
@@ -43,15 +46,42 @@ pub struct Attribute {
 }
 
 /// What a node is: the root, an element (its tag and where its attributes stand), or a text (where its bytes stand).
-#[derive(Clone, Copy)]
+#[derive(Clone, Copy, Default)]
 pub enum NodeKind {
+    #[default]
     Root,
     Element { tag: EId, attributes: Run },
     Text(Run),
 }
 
+impl NodeKind {
+    /// Whether the node is the root.
+    pub fn is_root(self) -> bool
+        ensures { result ≡ is_root_kind self }
+    {
+        matches!(self, NodeKind::Root)
+    }
+
+    /// Whether the node is an element.
+    pub fn is_element(self) -> bool
+        ensures { result ≡ is_element self }
+    {
+        matches!(self, NodeKind::Element { .. })
+    }
+
+    /// Whether the node is an element of this tag.
+    pub fn has_tag(self, sought: EId) -> bool
+        ensures { result ≡ is_tagged sought self }
+    {
+        match self {
+            NodeKind::Element { tag, .. } => tag == sought,
+            _ => false,
+        }
+    }
+}
+
 /// A node and its links to other nodes, by number.
-#[derive(Clone, Copy)]
+#[derive(Clone, Copy, Default)]
 pub struct NodeData {
     pub parent: Option<u32>,
     pub next: Option<u32>,
@@ -61,7 +91,7 @@ pub struct NodeData {
 }
 
 /// How many entries of each table a card uses.
-#[derive(Clone, Copy)]
+#[derive(Clone, Copy, Default)]
 pub struct TableCounts {
     pub nodes: usize,
     pub attributes: usize,

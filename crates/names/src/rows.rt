@@ -3,13 +3,10 @@ ghost use Rattle.std.specs.Prelude.{◌≡◌};
 ghost use Rattle.names.specs.Rows.{shown, sought};
 
 /// The value of the first row whose spelling is the text.
-pub(crate) fn find<T: Copy>(rows: &[(T, &'static str)], text: &str) -> Option<T>
+pub fn find<T: Copy>(rows: &[(T, &'static str)], text: &[u8]) -> Option<T>
     ensures { result ≡ sought (shown rows.now) text.now }
 {
-    for row in rows {
-        if row.1 == text {
-            return Some(row.0);
-        }
-    }
-    None
+    rows.iter()
+        .find(|row| row.1.as_bytes() == text)
+        .map(|row| row.0)
 }

@@ -1,40 +1,85 @@
-//! The tags of elements: how they are written and compared.
-ghost use Rattle.std.specs.Prelude.{◌≡◌};
-ghost use Rattle.names.specs.EIds.{place, read, same, spelling};
-ghost use Rattle.names.specs.Rows.{Exact};
+//! The tags of elements: how they are written.
+ghost use Rattle.names.specs.EIds.{all, place, spelling};
+ghost use Rattle.names.specs.Laws.{tags_equal, tags_stand, tags_read};
 
 use crate::EId;
-use crate::rows::find;
-use crate::tag_rows::rows;
+use crate::spelled::Spelled;
 
-impl EId {
-    /// The tag's place in the enum.
-    pub fn place(self) -> u8
-        ensures { result ≡ place self }
-    {
+/// Each tag with its spelling, in the order of the enum.
+const ROWS: [(EId, &str); 53] = [
+    (EId::A, "a"),
+    (EId::Circle, "circle"),
+    (EId::ClipPath, "clipPath"),
+    (EId::Defs, "defs"),
+    (EId::Ellipse, "ellipse"),
+    (EId::FeBlend, "feBlend"),
+    (EId::FeColorMatrix, "feColorMatrix"),
+    (EId::FeComponentTransfer, "feComponentTransfer"),
+    (EId::FeComposite, "feComposite"),
+    (EId::FeConvolveMatrix, "feConvolveMatrix"),
+    (EId::FeDiffuseLighting, "feDiffuseLighting"),
+    (EId::FeDisplacementMap, "feDisplacementMap"),
+    (EId::FeDistantLight, "feDistantLight"),
+    (EId::FeDropShadow, "feDropShadow"),
+    (EId::FeFlood, "feFlood"),
+    (EId::FeFuncA, "feFuncA"),
+    (EId::FeFuncB, "feFuncB"),
+    (EId::FeFuncG, "feFuncG"),
+    (EId::FeFuncR, "feFuncR"),
+    (EId::FeGaussianBlur, "feGaussianBlur"),
+    (EId::FeImage, "feImage"),
+    (EId::FeMerge, "feMerge"),
+    (EId::FeMergeNode, "feMergeNode"),
+    (EId::FeMorphology, "feMorphology"),
+    (EId::FeOffset, "feOffset"),
+    (EId::FePointLight, "fePointLight"),
+    (EId::FeSpecularLighting, "feSpecularLighting"),
+    (EId::FeSpotLight, "feSpotLight"),
+    (EId::FeTile, "feTile"),
+    (EId::FeTurbulence, "feTurbulence"),
+    (EId::Filter, "filter"),
+    (EId::G, "g"),
+    (EId::Image, "image"),
+    (EId::Line, "line"),
+    (EId::LinearGradient, "linearGradient"),
+    (EId::Marker, "marker"),
+    (EId::Mask, "mask"),
+    (EId::Path, "path"),
+    (EId::Pattern, "pattern"),
+    (EId::Polygon, "polygon"),
+    (EId::Polyline, "polyline"),
+    (EId::RadialGradient, "radialGradient"),
+    (EId::Rect, "rect"),
+    (EId::Stop, "stop"),
+    (EId::Style, "style"),
+    (EId::Svg, "svg"),
+    (EId::Switch, "switch"),
+    (EId::Symbol, "symbol"),
+    (EId::Text, "text"),
+    (EId::TextPath, "textPath"),
+    (EId::Tref, "tref"),
+    (EId::Tspan, "tspan"),
+    (EId::Use, "use"),
+];
+
+impl Spelled for EId {
+    ghost all = { all };
+
+    ghost place = { place };
+
+    ghost spelling = { spelling };
+
+    ghost equal_at_one_place = { tags_equal };
+
+    ghost each_stands_at_its_place = { tags_stand };
+
+    ghost each_is_read_from_its_spelling = { tags_read };
+
+    fn place(self) -> u8 {
         self as u8
     }
 
-    /// Whether two tags are the same.
-    pub fn is(self, other: EId) -> bool
-        ensures { result ≡ same self other }
-    {
-        self.place() == other.place()
-    }
-
-    /// How the tag is written.
-    pub fn to_str(self) -> &'static str
-        ensures { result.now ≡ spelling self }
-    {
-        let place = self as usize;
-        rows()[place].1
-    }
-
-    /// The tag that a text spells.
-    pub fn from_str(text: &str) -> Option<EId>
-        ensures value { result ≡ read text.now }
-        ensures exact { Exact spelling text.now result }
-    {
-        find(rows(), text)
+    fn rows() -> &'static [(EId, &'static str)] {
+        &ROWS
     }
 }

@@ -1,10 +1,9 @@
-//! The units of lengths: how they are written and compared.
-ghost use Rattle.std.specs.Prelude.{◌≡◌};
-ghost use Rattle.names.specs.LengthUnits.{place, read, same, spelling};
-ghost use Rattle.names.specs.Rows.{Exact};
+//! The units of lengths: how they are written behind a number.
+ghost use Rattle.names.specs.LengthUnits.{all, place, spelling};
+ghost use Rattle.names.specs.Laws.{units_equal, units_stand, units_read};
 
 use crate::LengthUnit;
-use crate::rows::find;
+use crate::spelled::Spelled;
 
 /// Each unit with its spelling, in the order of the enum.
 const ROWS: [(LengthUnit, &str); 10] = [
@@ -20,34 +19,24 @@ const ROWS: [(LengthUnit, &str); 10] = [
     (LengthUnit::Percent, "%"),
 ];
 
-impl LengthUnit {
-    /// The unit's place in the enum.
-    pub fn place(self) -> u8
-        ensures { result ≡ place self }
-    {
+impl Spelled for LengthUnit {
+    ghost all = { all };
+
+    ghost place = { place };
+
+    ghost spelling = { spelling };
+
+    ghost equal_at_one_place = { units_equal };
+
+    ghost each_stands_at_its_place = { units_stand };
+
+    ghost each_is_read_from_its_spelling = { units_read };
+
+    fn place(self) -> u8 {
         self as u8
     }
 
-    /// Whether two units are the same.
-    pub fn is(self, other: LengthUnit) -> bool
-        ensures { result ≡ same self other }
-    {
-        self.place() == other.place()
-    }
-
-    /// How the unit is written behind a number.
-    pub fn to_str(self) -> &'static str
-        ensures { result.now ≡ spelling self }
-    {
-        let place = self as usize;
-        ROWS[place].1
-    }
-
-    /// The unit that a text spells.
-    pub fn from_str(text: &str) -> Option<LengthUnit>
-        ensures value { result ≡ read text.now }
-        ensures exact { Exact spelling text.now result }
-    {
-        find(&ROWS, text)
+    fn rows() -> &'static [(LengthUnit, &'static str)] {
+        &ROWS
     }
 }

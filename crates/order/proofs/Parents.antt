@@ -1,21 +1,21 @@
 -- What one step of the pass over the parents keeps.
-use Rattle.std.proofs.Common.{◌≡◌, ℕ, suc, ◌+◌, ◌<◌, ◌≤◌, false, cond, List, length, get_or, set, Some, None, Option, sym, ap, ◌∙◌, subst, ⊎_elim, add-one, arith}
-use Rattle.std.proofs.lemmas.List.{get_or-set_same, get_or-set_other}
+use Rattle.std.proofs.Common.{◌≡◌, ℕ, suc, ◌+◌, ◌<◌, ◌≤◌, false, cond, List, length, get_or, set, replicate, Some, None, Option, sym, ap, ◌∙◌, subst, ⊎_elim, add-one, arith}
+use Rattle.std.proofs.lemmas.List.{get_or-set_same, get_or-set_other, get_or-replicate}
 use Rattle.std.proofs.lemmas.Bool.{cases_eq, cases_lt, lt-ltb, le-ltb}
 use Rattle.card.specs.Lists.{highest, lowest}
 use Rattle.card.specs.Tables.{Entries, node}
 use Rattle.card.specs.TableOrder.{child, later_sibling}
 use Rattle.card.proofs.Numbers.{option_cases, highest_here, highest_skip, highest_some, highest_nowhere, lowest_nowhere}
 use Rattle.card.proofs.Links.{child_from, child_is, link_other, next_after_none, next_after_other, next_after_last, next_after_kept, next_of_orphan}
-use Rattle.order.specs.Links.{with_next, last_noted, next_noted, Expected, Unlinked}
+use Rattle.order.specs.Links.{with_next, last_noted, next_noted, Expected}
 
 -- before the first node nothing is linked
-pub none_yet : (e : Entries) (n : ℕ) (last next : List (Option ℕ)) → n ≤ 4096 → Unlinked last → Unlinked next → Expected e n 0 last next
-none_yet e n last next h a b =
+pub none_yet : (e : Entries) (n m : ℕ) → n ≤ m → Expected e n 0 (replicate m None) (replicate m None)
+none_yet e n m h =
     record {
-      lasts = λ k l. a.none k (omega arith) ∙ sym (highest_nowhere (child e k) 0 (λ j z. absurd (omega arith)));
-      orphans = λ k l q. b.none k (omega arith);
-      nexts = λ k p l q u. b.none k (omega arith) ∙ sym (lowest_nowhere (later_sibling e k) 0 (λ j z. absurd (omega arith)));
+      lasts = λ k l. get_or-replicate m k None None (omega arith) ∙ sym (highest_nowhere (child e k) 0 (λ j z. absurd (omega arith)));
+      orphans = λ k l q. get_or-replicate m k None None (omega arith);
+      nexts = λ k p l q u. get_or-replicate m k None None (omega arith) ∙ sym (lowest_nowhere (later_sibling e k) 0 (λ j z. absurd (omega arith)));
     }
 
 module _ (e : Entries) (n m : ℕ) (last next : List (Option ℕ)) (h : Expected e n m last next) where

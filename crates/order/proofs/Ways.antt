@@ -1,4 +1,4 @@
--- What a climb along the parents keeps, and what it finds at its end. The counts of the card are no variable of the loops, so it is said of all.
+-- What a climb along the parents keeps, and what it finds at its end, where the nodes up to the one that it begins at are in order.
 use Rattle.std.proofs.Common.{◌≡◌, ℕ, ◌+◌, ◌<◌, ◌≤◌, Bool, false, cond, [], length, Some, None, sym, ap, ◌∙◌, subst, add-one, arith}
 use Rattle.card.specs.declared.record.TableCounts.{TableCounts}
 use Rattle.card.specs.Lists.{member}
@@ -6,18 +6,6 @@ use Rattle.card.specs.Contents.{above}
 use Rattle.card.specs.Tables.{Entries, node, contents, Whole}
 use Rattle.card.specs.TableOrder.{is_element, SoundBelow}
 use Rattle.card.proofs.Climb as climb
-
--- a fact of every card in these tables whose nodes are in order up to a number
-abbrev pub OfSound : Entries → ℕ → (TableCounts → Type 0) → Type 0
-OfSound e top P = (c : TableCounts) → Whole e c → SoundBelow e c (top + 1) → P c
-
--- a number lies above one node as it does above the other
-abbrev pub SameAbove : Entries → ℕ → ℕ → ℕ → Type 0
-SameAbove e top n at = OfSound e top (λ c. member n (above (contents e c) at) ≡ member n (above (contents e c) top))
-
--- so many elements were passed on the way
-abbrev pub Passed : Entries → ℕ → ℕ → ℕ → Type 0
-Passed e top elements at = OfSound e top (λ c. elements + length (above (contents e c) at) ≡ length (above (contents e c) top))
 
 module _ (e : Entries) (c : TableCounts) (w : Whole e c) (top : ℕ) (s : SoundBelow e c (top + 1)) where
   sound : climb.Climbs e c top

@@ -2,6 +2,8 @@
 use Rattle.std.specs.Prelude.{◌≡◌, ℕ, ◌-◌, Bool, true, cond, List, length, Some, None, Ok, Err, Option, Result, nat_lt}
 use Rattle.card.specs.declared.fault.Fault.{Fault}
 use Rattle.card.specs.declared.fault.Fault.TheVariants as fault
+use Rattle.card.specs.declared.fault.Table.{Table}
+use Rattle.card.specs.declared.fault.Table.TheVariants as table
 use Rattle.card.specs.declared.record.Length.{Length}
 use Rattle.card.specs.declared.record.Marks.{Marks}
 use Rattle.card.specs.declared.record.TableCounts.{TableCounts}
@@ -25,16 +27,16 @@ then (Ok u) next = next
 then (Err f) next = Err f
 
 -- a table shorter than its count, or a count above its limit, is refused
-abbrev pub table_checked : ℕ → ℕ → ℕ → ℕ → Result (Unit {0}) Fault
-table_checked table entries count limit = cond (nat_lt entries count) (Err (fault.TableShort table)) (cond (nat_lt limit count) (Err (fault.TableShort table)) (Ok tt))
+abbrev pub table_checked : Table → ℕ → ℕ → ℕ → Result (Unit {0}) Fault
+table_checked t entries count limit = cond (nat_lt entries count) (Err (fault.TableShort t)) (cond (nat_lt limit count) (Err (fault.TableShort t)) (Ok tt))
 
 -- each table in turn
 unfoldable pub tables_checked : Entries → TableCounts → Result (Unit {0}) Fault
 tables_checked e c =
-    then (table_checked 0 (length e.nodes) c.nodes 4096)
-    (then (table_checked 1 (length e.attributes) c.attributes 16384)
-    (then (table_checked 2 (length e.bytes) c.bytes 65536)
-    (table_checked 3 (length e.lengths) c.lengths 16384)))
+    then (table_checked table.Nodes (length e.nodes) c.nodes 4096)
+    (then (table_checked table.Attributes (length e.attributes) c.attributes 16384)
+    (then (table_checked table.Bytes (length e.bytes) c.bytes 65536)
+    (table_checked table.Lengths (length e.lengths) c.lengths 16384)))
 
 -- a node out of order is refused, the lowest
 abbrev pub order_refused : Option ℕ → Result (Unit {0}) Fault

@@ -1,8 +1,17 @@
 -- The links that a pass over the parents finds.
-use Rattle.std.specs.Prelude.{◌≡◌, ℕ, ◌<◌, cond, List, length, Some, None, Option, nat_lt, slice_index_or, slice_set}
+use Rattle.std.specs.Prelude.{◌≡◌, ℕ, ◌<◌, cond, List, map, Some, None, Option, nat_lt, slice_index_or, slice_set}
 use Rattle.card.specs.Lists.{highest, lowest}
 use Rattle.card.specs.Tables.{Entries, node}
 use Rattle.card.specs.TableOrder.{child, later_sibling}
+use Rattle.order.specs.declared.links.Note.{Note}
+
+-- the last child that is noted of each node
+abbrev pub lasts : List Note → List (Option ℕ)
+lasts notes = map (λ n. n.last) notes
+
+-- the next sibling that is noted of each node
+abbrev pub nexts : List Note → List (Option ℕ)
+nexts notes = map (λ n. n.next) notes
 
 -- node j is the last child of its parent now, if that is one of the nodes
 abbrev pub last_noted : List (Option ℕ) → ℕ → Option ℕ → ℕ → List (Option ℕ)
@@ -24,8 +33,3 @@ pub record Expected (e : Entries) (n m : ℕ) (last next : List (Option ℕ)) : 
   pub lasts : (k : ℕ) → k < n → slice_index_or last k None ≡ highest (child e k) m
   pub orphans : (k : ℕ) → k < n → (node e k).parent ≡ None → slice_index_or next k None ≡ None
   pub nexts : (k p : ℕ) → k < n → (node e k).parent ≡ Some p → p < n → slice_index_or next k None ≡ lowest (later_sibling e k) m
-
--- a link of each number that a card may have, all none
-pub record Unlinked (links : List (Option ℕ)) : Type 0 where
-  pub long : length links ≡ 4096
-  pub none : (k : ℕ) → k < 4096 → slice_index_or links k None ≡ None

@@ -3,12 +3,11 @@ ghost use Rattle.std.specs.Prelude.{◌≡◌, ◌≤◌, OnOk};
 ghost use Rattle.card.specs.Tables.{entries, Whole};
 ghost use Rattle.order.specs.Checks.{table_checked, tables_checked, card_checked, draft_checked, SoundCard, SoundDraft};
 
-use crate::climb::lies_above;
-use crate::pass::find_out_of_order;
-use card::{Fault, MAX_ATTRIBUTES, MAX_BYTES, MAX_LENGTHS, MAX_NODES, TableCounts, Tables};
+use crate::whole::WholeTables;
+use card::{Fault, MAX_ATTRIBUTES, MAX_BYTES, MAX_LENGTHS, MAX_NODES, Table, TableCounts, Tables};
 
 // Refuses a table that is shorter than its count, or whose count is above its limit.
-fn check_table(table: u8, entries: usize, count: usize, limit: usize) -> Result<(), Fault>
+fn check_table(table: Table, entries: usize, count: usize, limit: usize) -> Result<(), Fault>
     ensures answer { result ≡ table_checked table entries count limit }
     ensures room { OnOk result ((count ≤ entries) × (count ≤ limit)) }
 {
@@ -23,16 +22,20 @@ pub fn check_tables(tables: Tables<'_>, counts: TableCounts) -> Result<(), Fault
     ensures the_first_table_that_fails { result ≡ tables_checked (entries tables.entry) counts }
     ensures whole { OnOk result (Whole (entries tables.entry) counts) }
 {
-    check_table(0, tables.nodes.len(), counts.nodes, MAX_NODES)?;
+    check_table(Table::Nodes, tables.nodes.len(), counts.nodes, MAX_NODES)?;
     check_table(
-        1,
+        Table::Attributes,
         tables.attributes.len(),
         counts.attributes,
         MAX_ATTRIBUTES,
     )?;
-    check_table(2, tables.bytes.len(), counts.bytes, MAX_BYTES)?;
-    check_table(3, tables.lengths.len(), counts.lengths, MAX_LENGTHS)?;
-    Ok(())
+    check_table(Table::Bytes, tables.bytes.len(), counts.bytes, MAX_BYTES)?;
+    check_table(
+        Table::Lengths,
+        tables.lengths.len(),
+        counts.lengths,
+        MAX_LENGTHS,
+    )
 }
 
 /// Refuses a card whose tables are too short or whose nodes are out of order: the lowest such node is named.
@@ -41,7 +44,8 @@ pub fn check_card(tables: Tables<'_>, counts: TableCounts) -> Result<(), Fault>
     ensures sound { OnOk result (SoundCard (entries tables.entry) counts) }
 {
     check_tables(tables, counts)?;
-    match find_out_of_order(tables, counts) {
+    let card = WholeTables { tables, counts };
+    match card.find_out_of_order() {
         None => Ok(()),
         Some(node) => Err(Fault::OutOfOrder(node)),
     }
@@ -53,7 +57,8 @@ pub fn check_draft(tables: Tables<'_>, counts: TableCounts, open: u32) -> Result
     ensures sound { OnOk result (SoundDraft (entries tables.entry) counts «open») }
 {
     check_card(tables, counts)?;
-    if !lies_above(tables, counts, (counts.nodes - 1) as u32, open) {
+    let card = WholeTables { tables, counts };
+    if !card.lies_above((counts.nodes - 1) as u32, open) {
         return Err(Fault::OutOfOrder(open));
     }
     Ok(())

@@ -8,7 +8,8 @@ mod links;
 mod node;
 mod pass;
 mod value;
+mod whole;
 
 pub use check::{check_card, check_draft, check_tables};
-pub use climb::depth;
 pub use value::{check_spelling, keeps_rules};
+pub use whole::WholeTables;

@@ -1,29 +1,35 @@
 //! The links that nodes ought to have, found in one pass from their parents alone.
 ghost use Rattle.std.specs.Prelude.{◌≡◌, ℕ, ◌<◌, ◌≤◌, length, Some as just, None as nothing, slice_index_or};
-ghost use Rattle.card.specs.Tables.{entries, Whole};
-ghost use Rattle.order.specs.Links.{last_noted, next_noted, Expected, Unlinked};
+ghost use Rattle.card.specs.Tables.{entries};
+ghost use Rattle.order.specs.Links.{lasts, nexts, last_noted, next_noted, Expected};
 
-use card::{TableCounts, Tables};
+use crate::whole::WholeTables;
+use card::MAX_NODES;
 
-// A link of each number, all none.
-pub(crate) fn no_links() -> [Option<u32>; 4096]
-    ensures { Unlinked result }
-{
-    [None; 4096]
+/// What the passes over a card note of each node.
+#[derive(Clone, Copy)]
+pub(crate) struct Note {
+    /// Its last child, as far as the parents so far tell.
+    pub(crate) last: Option<u32>,
+    /// Its next sibling.
+    pub(crate) next: Option<u32>,
+    /// How many elements lie from it upward.
+    pub(crate) depth: u8,
 }
+
+// Of a node of which nothing is known yet.
+const BLANK: Note = Note {
+    last: None,
+    next: None,
+    depth: 0,
+};
 
 // Node `j` is one more child of its parent, if that is one of the nodes: the next sibling of the child that came before
 // it, and the last one now.
-fn note_child(
-    last: &mut [Option<u32>],
-    next: &mut [Option<u32>],
-    count: usize,
-    parent: Option<u32>,
-    j: u32,
-)
-    requires { (count ≤ length last.old) × (((p q : ℕ) → p < count → slice_index_or last.old p nothing ≡ just q → q < length next.old)) }
-    ensures last { last.new ≡ last_noted last.old count parent j }
-    ensures next { next.new ≡ next_noted last.old next.old count parent j }
+fn note_child(notes: &mut [Note], count: usize, parent: Option<u32>, j: u32)
+    requires { (count ≤ length notes.old) × (((p q : ℕ) → p < count → slice_index_or (lasts notes.old) p nothing ≡ just q → q < length notes.old)) }
+    ensures last { lasts notes.new ≡ last_noted (lasts notes.old) count parent j }
+    ensures next { nexts notes.new ≡ next_noted (lasts notes.old) (nexts notes.old) count parent j }
 {
     let Some(parent) = parent else {
         return;
@@ -32,25 +38,23 @@ fn note_child(
     if p >= count {
         return;
     }
-    if let Some(before) = last[p] {
-        next[before as usize] = Some(j);
+    if let Some(before) = notes[p].last {
+        notes[before as usize].next = Some(j);
     }
-    last[p] = Some(j);
+    notes[p].last = Some(j);
 }
 
-// The links that every node ought to have.
-pub(crate) fn find_links(
-    tables: Tables<'_>,
-    counts: TableCounts,
-    last: &mut [Option<u32>],
-    next: &mut [Option<u32>],
-)
-    requires whole { Whole (entries tables) counts }
-    requires no_last { Unlinked last.old }
-    requires no_next { Unlinked next.old }
-    ensures { Expected (entries tables.entry) counts.nodes counts.nodes last.new next.new }
-{
-    for j in 0..counts.nodes {
-        note_child(last, next, counts.nodes, tables.nodes[j].parent, j as u32);
+impl WholeTables<'_> {
+    // The links that every node ought to have.
+    pub(crate) fn find_links(self) -> [Note; MAX_NODES]
+        ensures long { length result ≡ 4096 }
+        ensures links { Expected (entries self.entry.tables) self.entry.counts.nodes self.entry.counts.nodes (lasts result) (nexts result) }
+    {
+        let count = self.counts.nodes;
+        let mut notes = [BLANK; MAX_NODES];
+        for (j, node) in self.tables.nodes[..count].iter().enumerate() {
+            note_child(&mut notes, count, node.parent, j as u32);
+        }
+        notes
     }
 }

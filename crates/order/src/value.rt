@@ -1,8 +1,6 @@
 //! Whether bytes and readings may stand in a card.
 ghost use Rattle.std.specs.Prelude.{◌≡◌};
 ghost use Rattle.card.specs.Order.{is_utf8, keeps_rules, all_finite, no_units};
-ghost use Rattle.names.specs.LengthUnits as units;
-ghost use Rattle.names.specs.declared.LengthUnit.TheVariants.{None as nounit};
 ghost use Rattle.order.specs.Checks.{spelling_checked, reading};
 
 use card::{Fault, Length, Marks};
@@ -13,10 +11,7 @@ use std::str::from_utf8;
 pub(crate) fn is_utf8(bytes: &[u8]) -> bool
     ensures { result ≡ is_utf8 bytes.now }
 {
-    match from_utf8(bytes) {
-        Ok(_) => true,
-        Err(_) => false,
-    }
+    from_utf8(bytes).is_ok()
 }
 
 /// Refuses bytes that are not UTF-8, with the length of their longest valid start.
@@ -33,31 +28,14 @@ pub fn check_spelling(bytes: &[u8]) -> Result<(), Fault>
 fn are_finite(lengths: &[Length]) -> bool
     ensures { result ≡ all_finite lengths.now }
 {
-    for length in lengths {
-        if !length.number.is_finite() {
-            return false;
-        }
-    }
-    true
-}
-
-// Whether a unit is the absence of one.
-fn is_bare(unit: LengthUnit) -> bool
-    ensures { result ≡ units.same unit nounit }
-{
-    matches!(unit, LengthUnit::None)
+    lengths.iter().all(|length| length.number.is_finite())
 }
 
 // Whether no length has a unit.
 fn are_bare(lengths: &[Length]) -> bool
     ensures { result ≡ no_units lengths.now }
 {
-    for length in lengths {
-        if !is_bare(length.unit) {
-            return false;
-        }
-    }
-    true
+    lengths.iter().all(|length| length.unit == LengthUnit::None)
 }
 
 /// Whether a reading keeps its rules: finite numbers, one length if single, no unit if plain.

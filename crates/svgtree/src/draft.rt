@@ -5,7 +5,7 @@ ghost use Rattle.card.specs.Contents.{element, text as text_item, item};
 ghost use Rattle.card.specs.Tables.{Entries, entries, contents};
 ghost use Rattle.svgtree.specs.Calls.{lent, begun_card, outcome, held, Holds, Unchanged, begun, opened, written, attr_given, given, closed, sealed};
 
-use crate::room::{check_opening, check_space, check_value, check_writing, counts_with, entry_of};
+use crate::room::{CheckedDraft, counts_with, entry_of};
 use crate::sealed::Sealed;
 use build::{add_node, begin_nodes, end_attributes, lay};
 use card::{Attribute, Fault, Length, NodeData, NodeKind, Run, TableCounts, Tables, Value};
@@ -32,9 +32,7 @@ impl Draft {
         begin_nodes(nodes);
         let counts = TableCounts {
             nodes: 2,
-            attributes: 0,
-            bytes: 0,
-            lengths: 0,
+            ..TableCounts::default()
         };
         Ok(Draft { counts, open: 1 })
     }
@@ -60,7 +58,12 @@ impl Draft {
             lengths,
         };
         check_draft(tables, counts, open)?;
-        check_opening(tables, counts, open)?;
+        let checked = CheckedDraft {
+            tables,
+            counts,
+            open,
+        };
+        checked.check_opening()?;
         let number = counts.nodes as u32;
         let at = counts.attributes as u32;
         let attributes = Run { start: at, end: at };
@@ -91,7 +94,12 @@ impl Draft {
             lengths,
         };
         check_draft(tables, counts, open)?;
-        check_writing(tables, counts, open, text)?;
+        let checked = CheckedDraft {
+            tables,
+            counts,
+            open,
+        };
+        checked.check_writing(text)?;
         let number = counts.nodes as u32;
         let end = counts.bytes + text.len();
         let run = Run {
@@ -127,8 +135,13 @@ impl Draft {
             lengths,
         };
         check_draft(tables, counts, open)?;
-        check_value(counts, open, value)?;
-        check_space(tables, counts, open, value)?;
+        let checked = CheckedDraft {
+            tables,
+            counts,
+            open,
+        };
+        checked.check_value(value)?;
+        checked.check_space(value)?;
         let number = counts.attributes;
         attributes[number] = entry_of(counts, name, value);
         lay(bytes, counts.bytes, value.bytes);

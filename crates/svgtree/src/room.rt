@@ -13,92 +13,94 @@ use card::{
     TableCounts, Tables, Value,
 };
 use names::AId;
-use order::{check_spelling, depth, keeps_rules};
+use order::{WholeTables, check_spelling, keeps_rules};
+
+/// A draft that has passed its check, in the tables that it was checked in.
+#[derive(Clone, Copy)]
+pub(crate) struct CheckedDraft<'a> {
+    pub(crate) tables: Tables<'a>,
+    pub(crate) counts: TableCounts,
+    pub(crate) open: u32,
+    ghost sound: { SoundDraft (entries tables) counts «open» },
+}
 
 // Whether a table, of which a limit counts, has no room for so many entries.
-pub(crate) fn lacks_room(entries: usize, limit: usize, needed: usize) -> bool
+fn lacks_room(entries: usize, limit: usize, needed: usize) -> bool
     ensures answer { result ≡ lacks entries limit needed }
     ensures fits { result ≡ false → (needed ≤ entries) × (needed ≤ limit) }
 {
     entries.min(limit) < needed
 }
 
-// Refuses to open an element too deep, or with no node entry for it.
-pub(crate) fn check_opening(tables: Tables<'_>, counts: TableCounts, open: u32) -> Result<(), Fault>
-    requires { SoundDraft (entries tables) counts «open» }
-    ensures answer { result ≡ opening_checked (draft counts «open») (entries tables.entry) }
-    ensures fits { OnOk result ((counts.nodes < length (entries tables.entry).nodes) × (counts.nodes < 4096) × (length (above (contents (entries tables.entry) counts) «open») < 64)) }
-{
-    if depth(tables, counts, open) >= MAX_DEPTH {
-        return Err(Fault::TooDeep(open));
+impl CheckedDraft<'_> {
+    // Refuses to open an element too deep, or with no node entry for it.
+    pub(crate) fn check_opening(self) -> Result<(), Fault>
+        ensures answer { result ≡ opening_checked (draft self.entry.counts self.entry.«open») (entries self.entry.tables) }
+        ensures fits { OnOk result ((self.entry.counts.nodes < length (entries self.entry.tables).nodes) × (self.entry.counts.nodes < 4096) × (length (above (contents (entries self.entry.tables) self.entry.counts) self.entry.«open») < 64)) }
+    {
+        let card = WholeTables {
+            tables: self.tables,
+            counts: self.counts,
+        };
+        if card.depth(self.open) >= MAX_DEPTH {
+            return Err(Fault::TooDeep(self.open));
+        }
+        if lacks_room(self.tables.nodes.len(), MAX_NODES, self.counts.nodes + 1) {
+            return Err(Fault::NoNodeEntry(self.open));
+        }
+        Ok(())
     }
-    if lacks_room(tables.nodes.len(), MAX_NODES, counts.nodes + 1) {
-        return Err(Fault::NoNodeEntry(open));
-    }
-    Ok(())
-}
 
-// Refuses to write a text with no node entry for it, that is not UTF-8, or that lacks space.
-pub(crate) fn check_writing(
-    tables: Tables<'_>,
-    counts: TableCounts,
-    open: u32,
-    text: &[u8],
-) -> Result<(), Fault>
-    requires { SoundDraft (entries tables) counts «open» }
-    ensures answer { result ≡ writing_checked (draft counts «open») (entries tables.entry) text.now }
-    ensures fits { OnOk result ((counts.nodes < length (entries tables.entry).nodes) × (counts.nodes < 4096) × (is_utf8 text.now ≡ true) × (counts.bytes + length text.now ≤ length (entries tables.entry).bytes) × (counts.bytes + length text.now ≤ 65536)) }
-{
-    if lacks_room(tables.nodes.len(), MAX_NODES, counts.nodes + 1) {
-        return Err(Fault::NoNodeEntry(open));
+    // Refuses to write a text with no node entry for it, that is not UTF-8, or that lacks space.
+    pub(crate) fn check_writing(self, text: &[u8]) -> Result<(), Fault>
+        ensures answer { result ≡ writing_checked (draft self.entry.counts self.entry.«open») (entries self.entry.tables) text.now }
+        ensures fits { OnOk result ((self.entry.counts.nodes < length (entries self.entry.tables).nodes) × (self.entry.counts.nodes < 4096) × (is_utf8 text.now ≡ true) × (self.entry.counts.bytes + length text.now ≤ length (entries self.entry.tables).bytes) × (self.entry.counts.bytes + length text.now ≤ 65536)) }
+    {
+        if lacks_room(self.tables.nodes.len(), MAX_NODES, self.counts.nodes + 1) {
+            return Err(Fault::NoNodeEntry(self.open));
+        }
+        check_spelling(text)?;
+        let needed = self.counts.bytes + text.len();
+        if lacks_room(self.tables.bytes.len(), MAX_BYTES, needed) {
+            return Err(Fault::BytesFull(needed));
+        }
+        Ok(())
     }
-    check_spelling(text)?;
-    let needed = counts.bytes + text.len();
-    if lacks_room(tables.bytes.len(), MAX_BYTES, needed) {
-        return Err(Fault::BytesFull(needed));
-    }
-    Ok(())
-}
 
-// Refuses an attribute of an element that is not the newest node, or one whose value or reading may not stand in a card.
-pub(crate) fn check_value(counts: TableCounts, open: u32, value: Value<'_>) -> Result<(), Fault>
-    ensures answer { result ≡ value_checked (draft counts «open») (attr_given blank_name value.entry) }
-    ensures fits { OnOk result ((«open» + 1 ≡ counts.nodes) × (is_utf8 value.entry.bytes.now ≡ true) × (keeps_rules (attr_given blank_name value.entry).reading ≡ true)) }
-{
-    if open as usize + 1 != counts.nodes {
-        return Err(Fault::NotNewest(open));
+    // Refuses an attribute of an element that is not the newest node, or one whose value or reading may not stand in a card.
+    pub(crate) fn check_value(self, value: Value<'_>) -> Result<(), Fault>
+        ensures answer { result ≡ value_checked (draft self.entry.counts self.entry.«open») (attr_given blank_name value.entry) }
+        ensures fits { OnOk result ((self.entry.«open» + 1 ≡ self.entry.counts.nodes) × (is_utf8 value.entry.bytes.now ≡ true) × (keeps_rules (attr_given blank_name value.entry).reading ≡ true)) }
+    {
+        if self.open as usize + 1 != self.counts.nodes {
+            return Err(Fault::NotNewest(self.open));
+        }
+        check_spelling(value.bytes)?;
+        if !keeps_rules(value.lengths, value.marks) {
+            return Err(Fault::ReadingBroken(self.open));
+        }
+        Ok(())
     }
-    check_spelling(value.bytes)?;
-    if !keeps_rules(value.lengths, value.marks) {
-        return Err(Fault::ReadingBroken(open));
-    }
-    Ok(())
-}
 
-// Refuses an attribute for which a table lacks space.
-pub(crate) fn check_space(
-    tables: Tables<'_>,
-    counts: TableCounts,
-    open: u32,
-    value: Value<'_>,
-) -> Result<(), Fault>
-    requires { SoundDraft (entries tables) counts «open» }
-    ensures answer { result ≡ space_checked (draft counts «open») (entries tables.entry) (attr_given blank_name value.entry) }
-    ensures fits { OnOk result (Space (entries tables.entry) counts (attr_given blank_name value.entry)) }
-{
-    let needed = counts.attributes + 1;
-    if lacks_room(tables.attributes.len(), MAX_ATTRIBUTES, needed) {
-        return Err(Fault::AttributesFull(needed));
+    // Refuses an attribute for which a table lacks space.
+    pub(crate) fn check_space(self, value: Value<'_>) -> Result<(), Fault>
+        ensures answer { result ≡ space_checked (draft self.entry.counts self.entry.«open») (entries self.entry.tables) (attr_given blank_name value.entry) }
+        ensures fits { OnOk result (Space (entries self.entry.tables) self.entry.counts (attr_given blank_name value.entry)) }
+    {
+        let needed = self.counts.attributes + 1;
+        if lacks_room(self.tables.attributes.len(), MAX_ATTRIBUTES, needed) {
+            return Err(Fault::AttributesFull(needed));
+        }
+        let needed = self.counts.bytes + value.bytes.len();
+        if lacks_room(self.tables.bytes.len(), MAX_BYTES, needed) {
+            return Err(Fault::BytesFull(needed));
+        }
+        let needed = self.counts.lengths + value.lengths.len();
+        if lacks_room(self.tables.lengths.len(), MAX_LENGTHS, needed) {
+            return Err(Fault::LengthsFull(needed));
+        }
+        Ok(())
     }
-    let needed = counts.bytes + value.bytes.len();
-    if lacks_room(tables.bytes.len(), MAX_BYTES, needed) {
-        return Err(Fault::BytesFull(needed));
-    }
-    let needed = counts.lengths + value.lengths.len();
-    if lacks_room(tables.lengths.len(), MAX_LENGTHS, needed) {
-        return Err(Fault::LengthsFull(needed));
-    }
-    Ok(())
 }
 
 // The entry of an attribute whose value and reading are the next entries of their tables.
@@ -126,9 +128,9 @@ pub(crate) fn counts_with(counts: TableCounts, value: Value<'_>) -> TableCounts
     ensures { result ≡ count_attribute counts (attr_given blank_name value.entry) }
 {
     TableCounts {
-        nodes: counts.nodes,
         attributes: counts.attributes + 1,
         bytes: counts.bytes + value.bytes.len(),
         lengths: counts.lengths + value.lengths.len(),
+        ..counts
     }
 }

@@ -1,9 +1,10 @@
 -- The text elements one node on, a list that they are written to, and that they are the card's.
-use Rattle.std.proofs.Common.{◌≡◌, ℕ, zero, suc, ◌+◌, ◌<◌, ◌≤◌, Bool, true, false, cond, List, [], ◌∷◌, ◌++◌, length, get_or, take, drop, set, filter, sym, refl, ap, ◌∙◌, subst, ⊎_elim, add-one, arith}
+use Rattle.std.proofs.Common.{◌≡◌, ℕ, zero, suc, ◌+◌, ◌<◌, ◌≤◌, Bool, true, false, cond, List, [], ◌∷◌, ◌++◌, length, get_or, take, drop, set, filter, count_by, sym, refl, ap, ◌∙◌, subst, ⊎_elim, add-one, arith}
 use Rattle.std.specs.List.{range_with_len}
 use Rattle.std.specs.List.Sorted.{IsPermutation}
 use Rattle.std.proofs.lemmas.List.FromFn.{filter_of_map_range_with_len_more}
 use Rattle.std.proofs.lemmas.List.{append-nil, append_assoc, length_push, map-id, set_at, drop_more, drop_at, take_at}
+use Rattle.std.proofs.lemmas.List.Sums.{count_by_more_yes, count_by_more_no}
 use Rattle.std.proofs.lemmas.List.Sorted.{IsPermutation-refl}
 use Rattle.std.proofs.lemmas.Bool.{cases_Bool, cases_lt, cond-true, cond-false}
 use Rattle.names.specs.declared.EId.TheVariants as tag
@@ -54,6 +55,18 @@ module _ (ns : List NodeData) where
       one =
           let a : length (text_elements ns (n + 1)) ≡ length (text_elements ns (suc n)) = ap (λ j. length (text_elements ns j)) (add-one n) in
           ⊎_elim (λ t. omega (arith, length_here n t)) (λ f. omega (arith, ap length (texts_skip n f))) (cases_Bool (is_text_element (get_or ns n blank)))
+
+  -- as many of the nodes are text elements as numbers are
+  pub as_many : (k : ℕ) → k ≤ length ns → count_by is_text_element (take k ns) ≡ length (text_elements ns k)
+  as_many zero h = ap length (sym texts_none)
+  as_many (suc k) h = subst (λ (j : ℕ). count_by is_text_element (take j ns) ≡ length (text_elements ns j)) (add-one k) (step (as_many k (omega arith)))
+    where
+      step : count_by is_text_element (take k ns) ≡ length (text_elements ns k) → count_by is_text_element (take (k + 1) ns) ≡ length (text_elements ns (k + 1))
+      step ih =
+          ⊎_elim
+          (λ t. count_by_more_yes is_text_element ns k blank (omega arith) t ∙ ap (λ n. n + 1) ih ∙ sym (length_here k t))
+          (λ f. count_by_more_no is_text_element ns k blank (omega arith) f ∙ ih ∙ ap length (sym (texts_skip k f)))
+          (cases_Bool (is_text_element (get_or ns k blank)))
 
 -- one more entry is written behind those that are
 pub written_more : (ts xs : List ℕ) (n k : ℕ) → n ≡ length ts → n < length xs → set (ts ++ drop n xs) n k ≡ (ts ++ k ∷ []) ++ drop (n + 1) xs

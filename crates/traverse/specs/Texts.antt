@@ -1,22 +1,19 @@
 -- The text elements of a card, and what a list of them is.
-use Rattle.std.specs.Prelude.{◌≡◌, ℕ, ◌<◌, Bool, false, List, length, take, drop, Ok, Err, filter, Result, slice_index_or}
+use Rattle.std.specs.Prelude.{◌≡◌, ℕ, ◌<◌, Bool, List, length, take, drop, Ok, Err, filter, Result, slice_index_or}
 use Rattle.std.specs.List.{range_with_len}
 use Rattle.std.specs.List.Sorted.{IsPermutation}
 use Rattle.names.specs.declared.EId.TheVariants as tag
-use Rattle.names.specs.EIds as tags
 use Rattle.card.specs.declared.fault.Fault.{Fault}
 use Rattle.card.specs.declared.fault.Fault.TheVariants.{ListShort}
 use Rattle.card.specs.declared.record.NodeData.{NodeData}
 use Rattle.card.specs.declared.record.NodeKind.{NodeKind}
-use Rattle.card.specs.declared.record.NodeKind.TheVariants as kind
 use Rattle.card.specs.Contents.{Card, has_tag, numbers}
 use Rattle.card.specs.Tables.{blank}
+use Rattle.card.specs.TableOrder.{is_tagged}
 
 -- a node of this kind is a text element
 abbrev pub is_text_kind : NodeKind → Bool
-is_text_kind kind.Root = false
-is_text_kind (kind.Element t attributes) = tags.same t tag.Text
-is_text_kind (kind.Text bytes) = false
+is_text_kind k = is_tagged tag.Text k
 
 -- the node is a text element
 abbrev pub is_text_element : NodeData → Bool

@@ -29,8 +29,7 @@ impl Edge {
         ensures { result ≡ number_of self }
     {
         match self {
-            Edge::Open(node) => node,
-            Edge::Close(node) => node,
+            Edge::Open(node) | Edge::Close(node) => node,
         }
     }
 }

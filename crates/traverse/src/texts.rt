@@ -2,34 +2,20 @@
 ghost use Rattle.std.specs.Prelude.{◌≡◌, ◌≤◌, ◌++◌, length, drop};
 ghost use Rattle.card.specs.declared.record.TableCounts.{TableCounts};
 ghost use Rattle.card.specs.Tables.{Entries, contents};
-ghost use Rattle.traverse.specs.Texts.{is_text_element, text_elements, card_texts, Listed};
+ghost use Rattle.traverse.specs.Texts.{text_elements, card_texts, Listed};
 
-use card::{Fault, NodeData, NodeKind};
+use card::{Fault, NodeData};
 use names::EId;
-
-/// Whether a node is a text element.
-fn is_text_element(node: NodeData) -> bool
-    ensures { result ≡ is_text_element node }
-{
-    match node.kind {
-        NodeKind::Root => false,
-        NodeKind::Element { tag, attributes: _ } => tag.is(EId::Text),
-        NodeKind::Text(_) => false,
-    }
-}
 
 /// How many of the first `count` nodes are text elements.
 fn count_texts(nodes: &[NodeData], count: usize) -> usize
     requires { count ≤ length nodes.now }
     ensures { result ≡ length (text_elements nodes.now count) }
 {
-    let mut found = 0;
-    for k in 0..count {
-        if is_text_element(nodes[k]) {
-            found += 1;
-        }
-    }
-    found
+    nodes[..count]
+        .iter()
+        .filter(|node| node.kind.has_tag(EId::Text))
+        .count()
 }
 
 /// Writes the text elements to the front of a list that has room for them.
@@ -39,8 +25,8 @@ fn write_texts(nodes: &[NodeData], count: usize, list: &mut [u32])
     ensures { list.new ≡ text_elements nodes.now count ++ drop (length (text_elements nodes.now count)) list.old }
 {
     let mut written = 0;
-    for k in 0..count {
-        if is_text_element(nodes[k]) {
+    for (k, node) in nodes[..count].iter().enumerate() {
+        if node.kind.has_tag(EId::Text) {
             list[written] = k as u32;
             written += 1;
         }

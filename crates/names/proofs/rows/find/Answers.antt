@@ -1,19 +1,14 @@
--- Each row in turn: it is the one, or the others decide.
-use Rattle.std.proofs.Common.{sym, ◌∙◌}
-use Rattle.std.proofs.lemmas.Bool.{both_ways}
-use Rattle.std.proofs.lemmas.Slice.Eq.{bytes_eq-Decides}
-use Rattle.names.proofs.Sought.{row_here, row_on, row_end}
+-- The chain gives what std's search finds, and `sought` is that search.
+use Rattle.std.proofs.Common.{sym, ap, ◌∙◌, rules, tests}
+use Rattle.std.specs.Option.{option_map}
+use Rattle.std.specs.Str.{bytes_eq}
+use Rattle.std.proofs.lemmas.Iterator.{YieldsList-from_slice}
+use Rattle.std.proofs.lemmas.Iterator.Search.{find_from_yields_List}
+use Rattle.names.proofs.Sought.{mapped_by, sought_is_find}
 use Rattle.names.proofs.rows.find.Goals as goal
 
-pub returns-then-eq : goal.returns-then-eq
-returns-then-eq g c =
-    sym (row_here c.args.rows.now c.loop-row.row-index c.args.text.now c.row-item.result c.loop-row-test.true c.row-item.is ((bytes_eq-Decides _ _).0 (sym c.eq.ensures ∙ c.if-eq.true)))
-    ∙ c.loop-row.invariant
-
-pub loop-row-preserved : goal.loop-row-preserved
-loop-row-preserved g c =
-    sym (row_on c.args.rows.now c.loop-row.row-index c.args.text.now c.row-item.result c.loop-row-test.true c.row-item.is (λ same. both_ways _ c.if-eq.false (c.eq.ensures ∙ (bytes_eq-Decides _ _).1 same)))
-    ∙ c.loop-row.invariant
-
 pub returns : goal.returns
-returns g c = sym (row_end c.args.rows.now c.loop-row.row-index c.args.text.now c.loop-row-test.false) ∙ c.loop-row.invariant
+returns g c =
+    let first = find_from_yields_List (λ r. bytes_eq r.1.now c.args.text.now) _ _ c.find.result c.find.ensures.ran (YieldsList-from_slice c.args.rows.now c.iter.ensures.rest) (λ x b q k. search (rules, tests)) in
+    let value = mapped_by (λ x. x.now) (λ r. r.0) c.find.result c.map.result c.map.ensures.cases (λ x y p. search (rules, tests)) in
+    value ∙ ap (option_map (λ r. r.0)) first ∙ sym (sought_is_find c.args.rows.now c.args.text.now)

@@ -12,7 +12,7 @@ pub lies_above-requires : goal.lies_above-requires
 lies_above-requires c =
     let sound = c.in_ok-check_card.ensures.sound in
     let two = sound.order.two in
-    record { whole = sound.whole; sound = λ j l. passes (entries c.args.tables) c.args.counts j (sound.order.each j (omega arith)) }
+    record { sound = λ j l. passes (entries c.args.tables) c.args.counts j (sound.order.each j (omega arith)) }
 
 pub returns-then-not-lies_above : goal.returns-then-not-lies_above
 unfolding draft_checked

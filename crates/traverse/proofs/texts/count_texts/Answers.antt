@@ -1,14 +1,11 @@
-use Rattle.std.proofs.Common.{rules}
-use Rattle.traverse.proofs.Listing.{texts_none, texts_skip, length_here}
+-- The chain counts the nodes that pass, and as many numbers pass.
+use Rattle.std.proofs.Common.{◌≡◌, count_by, take, ◌∙◌, rules}
+use Rattle.std.proofs.iter.runs.Made.{chains}
+use Rattle.traverse.specs.Texts.{is_text_element}
+use Rattle.traverse.proofs.Listing.{as_many}
 use Rattle.traverse.proofs.texts.count_texts.Goals as goal
-use Rattle.traverse.proofs.texts.count_texts.Goals.{then-is_text_element, else-is_text_element}
 
-pub loop-k-init : goal.loop-k-init
-loop-k-init c = let e = texts_none c.args.nodes.now in search rules
-
-pub loop-k-preserved : goal.loop-k-preserved
-loop-k-preserved c =
-    elim c.if-is_text_element.branch [
-      | then-is_text_element w ↦ let e = length_here c.args.nodes.now c.loop-k.k (search rules) in search rules
-      | else-is_text_element w ↦ let e = texts_skip c.args.nodes.now c.loop-k.k (search rules) in search rules
-    ]
+pub returns : goal.returns
+returns c =
+    let chain : c.count.result ≡ count_by is_text_element (take c.args.count c.args.nodes.now) = search (rules, chains) in
+    chain ∙ as_many c.args.nodes.now c.args.count c.requires

@@ -10,5 +10,5 @@ returns c =
     record {
       answer_and_tables = search rules;
       a_refusal_changes_nothing = tt;
-      a_card_just_begun_is_in_order = λ others. kept_at _ _ _ _ _ _ _ _ _ _ _ _ c.begin_nodes.ensures refl refl refl refl (begun (lent c.args.nodes.now others.attributes others.bytes others.lengths) (omega arith));
+      a_card_just_begun_is_in_order = λ others. kept_at _ _ _ _ _ _ _ _ _ _ _ _ c.begin_nodes.ensures refl refl refl (search rules) (begun (lent c.args.nodes.now others.attributes others.bytes others.lengths) (omega arith));
     }

@@ -1,7 +1,0 @@
-use Rattle.std.proofs.Common.{refl}
-use Rattle.names.specs.Parts.{part}
-use Rattle.names.proofs.attribute_rows.second.Goals as goal
-
-pub returns : goal.returns
-unfolding part
-returns c = refl
