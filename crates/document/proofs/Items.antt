@@ -11,9 +11,9 @@ use Rattle.card.specs.declared.record.NodeData.{NodeData}
 use Rattle.card.specs.declared.record.NodeKind.{NodeKind}
 use Rattle.card.specs.declared.record.NodeKind.TheVariants as kind
 use Rattle.card.specs.Lists.{all}
-use Rattle.card.specs.Contents.{Item, Attr, root, element, text, item, attrs_of, above}
+use Rattle.card.specs.Contents.{Item, Attr, root, element, text, item, attrs_of, above, tagged, has_tag}
 use Rattle.card.specs.Tables.{Entries, entries, node, run_in, item_by, attr_of, contents}
-use Rattle.card.specs.TableOrder.{in_use, attribute_in_order, filled, follows_on, parented}
+use Rattle.card.specs.TableOrder.{in_use, attribute_in_order, filled, follows_on, is_tagged, parented}
 use Rattle.card.proofs.Checked.{item_at, length_contents, passes}
 use Rattle.card.proofs.Climb as climb
 use Rattle.card.proofs.Upward.{past_end, root_is, not_root}
@@ -69,6 +69,15 @@ module _ (d : Document) where
         go kind.Root n = r
         go (kind.Element u run) n = e _ _ _
         go (kind.Text run) n = absurd (n run refl)
+
+  -- the node is an element of a tag as its item is
+  pub tagged_is : (t : EId) (k : ℕ) (x : NodeKind) → x ≡ kind_at tables_of d.counts k → is_tagged t x ≡ has_tag t (card_of d) k
+  tagged_is t k x q = go x ∙ sym (ap (tagged t) (item_is k x q))
+    where
+      go : (z : NodeKind) → is_tagged t z ≡ tagged t (item_by tables_of (unwrap_or (node tables_of k).parent 0) z)
+      go kind.Root = refl
+      go (kind.Element u run) = refl
+      go (kind.Text run) = refl
 
   -- a node that is not the root is one of those used
   used : (k : ℕ) (x : NodeKind) → (x ≡ kind.Root → ⊥) → x ≡ kind_at tables_of d.counts k → (k < d.counts.nodes) × ((node tables_of k).kind ≡ x)

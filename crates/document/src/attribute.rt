@@ -8,8 +8,7 @@ ghost use Rattle.card.specs.TableOrder.{attribute_in_order};
 ghost use Rattle.document.specs.Reads.{card_of};
 ghost use Rattle.document.specs.Said.{said, said_by, first_passing, entry_named, attribute as first_attribute};
 
-use crate::document::Document;
-use crate::node::part;
+use crate::node::{SvgNode, part};
 use card::{Attribute, NodeKind, Value};
 use names::AId;
 
@@ -20,45 +19,45 @@ fn first_named(attributes: &[Attribute], name: AId) -> Option<Attribute>
     attributes
         .iter()
         .copied()
-        .find(|attribute| attribute.name.is(name))
+        .find(|attribute| attribute.name == name)
 }
 
-impl<'a> Document<'a> {
+impl<'a> SvgNode<'a> {
     // An element's attributes; none for any other node.
-    fn attributes(self, k: u32) -> &'a [Attribute]
-        ensures contents { map (attr_of (entries self.entry.tables)) result.now ≡ attrs_of (item (card_of self.entry) k) }
-        ensures in_order { all (attribute_in_order (entries self.entry.tables) self.entry.counts) result.now ≡ true }
+    fn attributes(self) -> &'a [Attribute]
+        ensures contents { map (attr_of (entries self.entry.doc.tables)) result.now ≡ attrs_of (item (card_of self.entry.doc) self.entry.id) }
+        ensures in_order { all (attribute_in_order (entries self.entry.doc.tables) self.entry.doc.counts) result.now ≡ true }
     {
-        match self.kind(k) {
-            NodeKind::Element { attributes, .. } => part(self.tables.attributes, attributes),
+        match self.kind() {
+            NodeKind::Element { attributes, .. } => part(self.doc.tables.attributes, attributes),
             _ => &[],
         }
     }
 
     // An attribute's value with its reading.
     fn value_of(self, attribute: Attribute) -> Value<'a>
-        requires { attribute_in_order (entries self.tables) self.counts attribute ≡ true }
-        ensures { said result ≡ said_by (attr_of (entries self.entry.tables) attribute) }
+        requires { attribute_in_order (entries self.doc.tables) self.doc.counts attribute ≡ true }
+        ensures { said result ≡ said_by (attr_of (entries self.entry.doc.tables) attribute) }
     {
         Value {
-            bytes: part(self.tables.bytes, attribute.value),
-            lengths: part(self.tables.lengths, attribute.lengths),
+            bytes: part(self.doc.tables.bytes, attribute.value),
+            lengths: part(self.doc.tables.lengths, attribute.lengths),
             marks: attribute.marks,
         }
     }
 
     /// The value of the first attribute of a name, as it lies in the tables.
-    pub fn value(self, k: u32, name: AId) -> Option<Value<'a>>
-        ensures { option_map said result ≡ option_map said_by (first_attribute (card_of self.entry) k name) }
+    pub fn value(self, name: AId) -> Option<Value<'a>>
+        ensures { option_map said result ≡ option_map said_by (first_attribute (card_of self.entry.doc) self.entry.id name) }
     {
-        let attribute = first_named(self.attributes(k), name)?;
+        let attribute = first_named(self.attributes(), name)?;
         Some(self.value_of(attribute))
     }
 
     /// Whether an element has an attribute of the name.
-    pub fn has_attribute(self, k: u32, name: AId) -> bool
-        ensures { result ≡ is_some (first_attribute (card_of self.entry) k name) }
+    pub fn has_attribute(self, name: AId) -> bool
+        ensures { result ≡ is_some (first_attribute (card_of self.entry.doc) self.entry.id name) }
     {
-        first_named(self.attributes(k), name).is_some()
+        first_named(self.attributes(), name).is_some()
     }
 }

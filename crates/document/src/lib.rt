@@ -6,3 +6,4 @@ mod document;
 mod node;
 
 pub use document::Document;
+pub use node::SvgNode;

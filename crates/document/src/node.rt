@@ -1,6 +1,7 @@
-//! The nodes of a document: what each is, and where the way up goes on. A number that is no node is as the root.
-ghost use Rattle.std.specs.Prelude.{◌≡◌, ◌≤◌, true, length, is_ok};
-ghost use Rattle.card.specs.Contents.{item, bytes_of, is_text};
+//! The nodes of a document: what each is, and where the way up goes on.
+ghost use Rattle.std.specs.Prelude.{◌≡◌, ◌≤◌, true, length, is_ok, IfSome};
+ghost use Rattle.std.specs.Option.{option_map};
+ghost use Rattle.card.specs.Contents.{item, bytes_of, is_text, has_tag};
 ghost use Rattle.card.specs.Tables.{entries, contents, run_in};
 ghost use Rattle.order.specs.Checks.{card_checked};
 ghost use Rattle.document.specs.Reads.{card_of, node_at, kind_at, tag_of, is_element, Leads};
@@ -8,6 +9,13 @@ ghost use Rattle.document.specs.Reads.{card_of, node_at, kind_at, tag_of, is_ele
 use crate::document::Document;
 use card::{NodeData, NodeKind, Run, TableCounts, Tables};
 use names::EId;
+
+/// A node of a document, by its number. A number that is no node is as the root.
+#[derive(Clone, Copy)]
+pub struct SvgNode<'a> {
+    pub doc: Document<'a>,
+    pub id: u32,
+}
 
 // The entries of a run.
 pub(crate) fn part<'a, T>(table: &'a [T], run: Run) -> &'a [T]
@@ -34,61 +42,80 @@ impl<'a> Document<'a> {
         nodes
     }
 
-    // The node of a number, if it is one.
-    fn node(self, k: u32) -> Option<NodeData>
-        ensures { result ≡ node_at (entries self.entry.tables) self.entry.counts k }
+    /// The node of a number.
+    pub fn node(self, id: u32) -> SvgNode<'a>
+        ensures of_this_document { result.doc ≡ self.entry }
+        ensures of_this_number { result.id ≡ id }
     {
-        if k as usize >= self.counts.nodes {
+        SvgNode { doc: self, id }
+    }
+}
+
+impl<'a> SvgNode<'a> {
+    // The entry of the node, if it is one.
+    fn data(self) -> Option<NodeData>
+        ensures { result ≡ node_at (entries self.entry.doc.tables) self.entry.doc.counts self.entry.id }
+    {
+        if self.id as usize >= self.doc.counts.nodes {
             return None;
         }
-        Some(self.tables.nodes[k as usize])
+        Some(self.doc.tables.nodes[self.id as usize])
     }
 
-    // What a node is.
-    pub(crate) fn kind(self, k: u32) -> NodeKind
-        ensures { result ≡ kind_at (entries self.entry.tables) self.entry.counts k }
+    // What the node is.
+    pub(crate) fn kind(self) -> NodeKind
+        ensures { result ≡ kind_at (entries self.entry.doc.tables) self.entry.doc.counts self.entry.id }
     {
-        self.node(k).map_or(NodeKind::Root, |node| node.kind)
+        self.data().map_or(NodeKind::Root, |node| node.kind)
     }
 
     /// An element's tag.
-    pub fn tag(self, k: u32) -> Option<EId>
-        ensures { result ≡ tag_of (item (card_of self.entry) k) }
+    pub fn tag(self) -> Option<EId>
+        ensures { result ≡ tag_of (item (card_of self.entry.doc) self.entry.id) }
     {
-        match self.kind(k) {
+        match self.kind() {
             NodeKind::Element { tag, .. } => Some(tag),
             _ => None,
         }
     }
 
-    /// Whether the number is an element.
-    pub fn is_element(self, k: u32) -> bool
-        ensures { result ≡ is_element (card_of self.entry) k }
+    /// Whether the node is an element.
+    pub fn is_element(self) -> bool
+        ensures { result ≡ is_element (card_of self.entry.doc) self.entry.id }
     {
-        self.tag(k).is_some()
+        self.tag().is_some()
     }
 
-    /// Whether the number is a text.
-    pub fn is_text(self, k: u32) -> bool
-        ensures { result ≡ is_text (card_of self.entry) k }
+    /// Whether the node is an element of this tag.
+    pub fn has_tag(self, sought: EId) -> bool
+        ensures { result ≡ has_tag sought (card_of self.entry.doc) self.entry.id }
     {
-        matches!(self.kind(k), NodeKind::Text(_))
+        self.kind().has_tag(sought)
+    }
+
+    /// Whether the node is a text.
+    pub fn is_text(self) -> bool
+        ensures { result ≡ is_text (card_of self.entry.doc) self.entry.id }
+    {
+        matches!(self.kind(), NodeKind::Text(_))
     }
 
     /// A text's bytes; none for any other node.
-    pub fn text(self, k: u32) -> &'a [u8]
-        ensures { result.now ≡ bytes_of (item (card_of self.entry) k) }
+    pub fn text(self) -> &'a [u8]
+        ensures { result.now ≡ bytes_of (item (card_of self.entry.doc) self.entry.id) }
     {
-        match self.kind(k) {
-            NodeKind::Text(run) => part(self.tables.bytes, run),
+        match self.kind() {
+            NodeKind::Text(run) => part(self.doc.tables.bytes, run),
             _ => &[],
         }
     }
 
-    /// The node that a node lies in.
-    pub fn parent(self, k: u32) -> Option<u32>
-        ensures { Leads (card_of self.entry) k result }
+    /// The node that this one lies in.
+    pub fn parent(self) -> Option<SvgNode<'a>>
+        ensures leads { Leads (card_of self.entry.doc) self.entry.id (option_map (λ n. n.id) result) }
+        ensures same_document { IfSome result (λ n. n.doc ≡ self.entry.doc) }
     {
-        self.node(k)?.parent
+        let id = self.data()?.parent?;
+        Some(self.doc.node(id))
     }
 }

@@ -1,7 +1,7 @@
 use Rattle.std.proofs.Common.{◌≡◌, is_some, refl, ap, ◌∙◌}
 use Rattle.card.specs.Contents.{Item, root, element, text, item}
 use Rattle.document.specs.Reads.{card_of, tag_of, is_element_item}
-use Rattle.document.proofs.document.Document.is_element.Goals as goal
+use Rattle.document.proofs.node.SvgNode.is_element.Goals as goal
 
 -- only an element has a tag
 tagged : (it : Item) → is_some (tag_of it) ≡ is_element_item it
@@ -10,4 +10,4 @@ tagged (element p t attrs) = refl
 tagged (text p bytes) = refl
 
 pub returns : goal.returns
-returns c = c.is_some.ensures ∙ ap is_some c.tag.ensures ∙ tagged (item (card_of c.args.self) c.args.k)
+returns c = c.is_some.ensures ∙ ap is_some c.tag.ensures ∙ tagged (item (card_of c.args.self.doc) c.args.self.id)
