@@ -3,7 +3,7 @@ use crate::answer::{Answer, NoAnswer};
 use crate::line::Poke;
 use card::{
     Attribute, Length, MAX_ATTRIBUTES, MAX_BYTES, MAX_LENGTHS, MAX_NODES, Marks, NodeData,
-    NodeKind, Run, TableCounts, Tables,
+    Run, TableCounts, Tables,
 };
 use names::{AId, LengthUnit};
 use std::alloc::{AllocError, Global};
@@ -54,30 +54,18 @@ pub(crate) struct Lent {
 impl Lent {
     /// Cleared tables of these sizes.
     pub(crate) fn new(heap: Global, sizes: TableCounts) -> Result<Lent, AllocError> {
-        let run = Run { start: 0, end: 0 };
-        let marks = Marks {
-            single: false,
-            plain: false,
-        };
-        let node = NodeData {
-            parent: None,
-            next: None,
-            first: None,
-            last: None,
-            kind: NodeKind::Root,
-        };
         let attribute = Attribute {
             name: AId::AlignmentBaseline,
-            value: run,
-            lengths: run,
-            marks,
+            value: Run::default(),
+            lengths: Run::default(),
+            marks: Marks::default(),
         };
         let length = Length {
             number: 0.0,
             unit: LengthUnit::None,
         };
         Ok(Lent {
-            nodes: LentTable::new(heap, node, sizes.nodes, MAX_NODES)?,
+            nodes: LentTable::new(heap, NodeData::default(), sizes.nodes, MAX_NODES)?,
             attributes: LentTable::new(heap, attribute, sizes.attributes, MAX_ATTRIBUTES)?,
             bytes: LentTable::new(heap, 0, sizes.bytes, MAX_BYTES)?,
             lengths: LentTable::new(heap, length, sizes.lengths, MAX_LENGTHS)?,

@@ -2,7 +2,7 @@
 use crate::answer::NoAnswer;
 use crate::words::Words;
 use card::{Attribute, Length, Marks, NodeData, NodeKind, Run, TableCounts};
-use names::{AId, EId};
+use names::{AId, EId, Spelled};
 use std::alloc::Global;
 
 /// A line that could be read.

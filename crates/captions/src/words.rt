@@ -2,7 +2,7 @@
 ghost use Rattle.std.specs.Prelude.{◌<◌, IfSome, length};
 
 use crate::answer::NoAnswer;
-use names::LengthUnit;
+use names::{LengthUnit, Spelled};
 use std::alloc::Global;
 use std::str::from_utf8;
 

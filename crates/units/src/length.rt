@@ -37,11 +37,9 @@ pub fn convert_length(length: Length, settings: &Settings, size: f32, base: f32)
 pub(crate) fn percent_base(name: AId, settings: &Settings) -> f32
     ensures { result ≡ base_for settings.now name }
 {
-    if name.is(AId::X) || name.is(AId::Dx) {
-        settings.width
-    } else if name.is(AId::Y) || name.is(AId::Dy) {
-        settings.height
-    } else {
-        settings.diagonal
+    match name {
+        AId::X | AId::Dx => settings.width,
+        AId::Y | AId::Dy => settings.height,
+        _ => settings.diagonal,
     }
 }

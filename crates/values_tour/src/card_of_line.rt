@@ -1,6 +1,6 @@
 //! A card of nested elements, made of the words of a line: each is the font size of one element.
-use card::{Attribute, Fault, Length, Marks, NodeData, NodeKind, Run, TableCounts, Tables, Value};
-use names::{AId, EId, LengthUnit};
+use card::{Attribute, Fault, Length, Marks, NodeData, Run, TableCounts, Tables, Value};
+use names::{AId, EId, LengthUnit, Spelled};
 use svgtree::Draft;
 
 /// How many elements, attributes, bytes and lengths a line may make.
@@ -28,11 +28,6 @@ const NUMBERS: [(f32, LengthUnit); 10] = [
 
 /// The names under which they are given to the innermost element, as one list.
 pub(crate) const NAMES: [AId; 5] = [AId::X, AId::Y, AId::Dx, AId::Dy, AId::LetterSpacing];
-
-const UNMARKED: Marks = Marks {
-    single: false,
-    plain: false,
-};
 
 /// The tables of a card.
 #[derive(Drop)]
@@ -63,26 +58,18 @@ fn length_in_unit(word: &str, width: usize) -> Option<Length> {
 
 impl Room {
     pub(crate) fn new() -> Room {
-        let run = Run { start: 0, end: 0 };
-        let node = NodeData {
-            parent: None,
-            next: None,
-            first: None,
-            last: None,
-            kind: NodeKind::Root,
-        };
         let attribute = Attribute {
             name: AId::X,
-            value: run,
-            lengths: run,
-            marks: UNMARKED,
+            value: Run::default(),
+            lengths: Run::default(),
+            marks: Marks::default(),
         };
         let length = Length {
             number: 0.0,
             unit: LengthUnit::None,
         };
         Room {
-            nodes: [node; NODES],
+            nodes: [NodeData::default(); NODES],
             attributes: [attribute; ATTRIBUTES],
             bytes: [0; BYTES],
             lengths: [length; LENGTHS],
@@ -125,7 +112,7 @@ impl Room {
             lengths: length.as_slice(),
             marks: Marks {
                 single: length.is_some(),
-                plain: false,
+                ..Marks::default()
             },
         };
         self.give(draft, AId::FontSize, value)
@@ -142,7 +129,7 @@ impl Room {
             let value = Value {
                 bytes: b"a length in each unit",
                 lengths: &lengths,
-                marks: UNMARKED,
+                marks: Marks::default(),
             };
             self.give(&mut draft, name, value)?;
         }

@@ -2,7 +2,7 @@
 use crate::card_of_line::NAMES;
 use card::{TableCounts, Tables};
 use document::Document;
-use names::AId;
+use names::{AId, Spelled};
 use order::check_card;
 use units::{Settings, convert_list, resolve_font_size};
 
