@@ -6,24 +6,24 @@ ghost use Rattle.characters.specs.Subtrees.{LiesBetween};
 ghost use Rattle.characters.specs.Characters.{characters, char_count};
 
 use crate::text::count_chars;
-use document::Document;
+use document::SvgNode;
 
 // The node that a node lies in; the root lies in itself.
-fn parent_or_root(doc: Document<'_>, k: u32) -> u32
-    ensures { result ≡ parent (card_of doc.entry) k }
+fn parent_or_root(node: SvgNode<'_>) -> u32
+    ensures { result ≡ parent (card_of node.entry.doc) node.entry.id }
 {
-    doc.parent(k).unwrap_or(0)
+    node.parent().map_or(0, |parent| parent.id)
 }
 
 /// The first number after a node that does not lie below it.
-pub fn subtree_end(doc: Document<'_>, e: u32) -> u32
-    requires later { 0 < e }
-    requires node { e < length (card_of doc) }
-    ensures { LiesBetween (card_of doc.entry) e result }
+pub fn subtree_end(node: SvgNode<'_>) -> u32
+    requires later { 0 < node.id }
+    requires present { node.id < length (card_of node.doc) }
+    ensures { LiesBetween (card_of node.entry.doc) node.entry.id result }
 {
-    let nodes = doc.len() as u32;
-    for k in e + 1..nodes {
-        if parent_or_root(doc, k) < e {
+    let nodes = node.doc.len() as u32;
+    for k in node.id + 1..nodes {
+        if parent_or_root(node.doc.node(k)) < node.id {
             return k;
         }
     }
@@ -31,19 +31,19 @@ pub fn subtree_end(doc: Document<'_>, e: u32) -> u32
 }
 
 /// How many characters a number has as a text: none, if it is no text.
-pub fn count_chars_in(doc: Document<'_>, k: u32) -> usize
-    ensures { result ≡ char_count (card_of doc.entry) k }
+pub fn count_chars_in(node: SvgNode<'_>) -> usize
+    ensures { result ≡ char_count (card_of node.entry.doc) node.entry.id }
 {
-    count_chars(doc.text(k))
+    count_chars(node.text())
 }
 
 /// How many characters a node has: those of all texts below it.
-pub fn count_chars_below(doc: Document<'_>, e: u32) -> usize
-    requires later { 0 < e }
-    requires node { e < length (card_of doc) }
-    ensures { result ≡ length (characters (card_of doc.entry) e) }
+pub fn count_chars_below(node: SvgNode<'_>) -> usize
+    requires later { 0 < node.id }
+    requires present { node.id < length (card_of node.doc) }
+    ensures { result ≡ length (characters (card_of node.entry.doc) node.entry.id) }
 {
-    (e + 1..subtree_end(doc, e))
-        .map(|k| count_chars_in(doc, k))
+    (node.id + 1..subtree_end(node))
+        .map(|k| count_chars_in(node.doc.node(k)))
         .sum()
 }

@@ -8,21 +8,21 @@ use Rattle.characters.proofs.Documents.{few_nodes, few_in_all}
 use Rattle.characters.proofs.Spans.{length_between}
 use Rattle.characters.proofs.below.count_chars_below.Goals as goal
 
-pub overflow_add-e : goal.overflow_add-e
-overflow_add-e c = omega (arith, few_nodes c.args.doc)
+pub overflow_add-node : goal.overflow_add-node
+overflow_add-node c = omega (arith, few_nodes c.args.node.doc)
 
 pub sum-requires-clause-fits : goal.sum-requires-clause-fits
 sum-requires-clause-fits c =
-    let card = card_of c.args.doc in
-    let n = c.subtree_end.result - (c.args.e + 1) in
+    let card = card_of c.args.node.doc in
+    let n = c.subtree_end.result - (c.args.node.id + 1) in
     let w = c.subtree_end.ensures.within in
-    let l = few_nodes c.args.doc in
-    let s = few_in_all c.args.doc (c.args.e + 1) n (omega arith) in
-    fits_by_from_yields_list (char_count card) (range_with_len (c.args.e + 1) n) _ _ (YieldsList-from_map _ (char_count card) (YieldsList-from_range (c.args.e + 1) c.subtree_end.result n (cc) refl) c.map.ensures.closure (λ x r q k. search rules)) (omega arith)
+    let l = few_nodes c.args.node.doc in
+    let s = few_in_all c.args.node.doc (c.args.node.id + 1) n (omega arith) in
+    fits_by_from_yields_list (char_count card) (range_with_len (c.args.node.id + 1) n) _ _ (YieldsList-from_map _ (char_count card) (YieldsList-from_range (c.args.node.id + 1) c.subtree_end.result n (cc) refl) c.map.ensures.closure (λ x r q k. search rules)) (omega arith)
 
 pub returns : goal.returns
 returns c =
-    let card = card_of c.args.doc in
-    let n = c.subtree_end.result - (c.args.e + 1) in
-    sum_by_from_yields_List (char_count card) (range_with_len (c.args.e + 1) n) _ _ c.sum.ensures.ran (YieldsList-from_map _ (char_count card) (YieldsList-from_range (c.args.e + 1) c.subtree_end.result n (cc) refl) c.map.ensures.closure (λ x r q k. search rules))
-    ∙ sym (length_between card c.args.e c.subtree_end.result c.subtree_end.ensures)
+    let card = card_of c.args.node.doc in
+    let n = c.subtree_end.result - (c.args.node.id + 1) in
+    sum_by_from_yields_List (char_count card) (range_with_len (c.args.node.id + 1) n) _ _ c.sum.ensures.ran (YieldsList-from_map _ (char_count card) (YieldsList-from_range (c.args.node.id + 1) c.subtree_end.result n (cc) refl) c.map.ensures.closure (λ x r q k. search rules))
+    ∙ sym (length_between card c.args.node.id c.subtree_end.result c.subtree_end.ensures)

@@ -5,4 +5,4 @@ use Rattle.characters.proofs.below.subtree_end.Given as goal
 
 -- all numbers so far have parents from e on
 abbrev pub invariant-loop-k : goal.invariant-loop-k
-invariant-loop-k l = (j : ℕ) → l.e < j → j < l.k → l.e ≤ parent (card_of l.doc) j
+invariant-loop-k l = (j : ℕ) → l.node.id < j → j < l.k → l.node.id ≤ parent (card_of l.node.doc) j
