@@ -3,8 +3,8 @@
 
 usage: generate_names.py FOLDER   (the folder of usvg's sources that holds names.rs and mod.rs)
 
-It writes src/lib.rt, src/tag_rows.rt, src/attribute_rows.rt, src/inherited.rt, specs/EIds.antt, specs/AIds.antt and
-the answers of the two tests of attributes in proofs/AId, and runs `rt fmt`. The crate's other files are written by hand.
+It writes src/lib.rt, src/tags.rt, src/attributes.rt, src/inherited.rt, specs/EIds.antt, specs/AIds.antt and the answers
+of the longer test of attributes in proofs/AId, and runs `rt fmt`. The crate's other files are written by hand.
 """
 
 import os
@@ -15,7 +15,6 @@ import sys
 ROOT = os.path.dirname(os.path.dirname(os.path.abspath(__file__)))
 CRATE = os.path.join(ROOT, "crates", "names")
 UNITS = ["None", "Px", "Em", "Ex", "In", "Cm", "Mm", "Pt", "Pc", "Percent"]
-PART = 53  # rows in a part: the time to check a table grows with the cube of its length
 
 
 def variants(text, name):
@@ -53,7 +52,7 @@ def listed(names, width=120):
 
 
 def enum(name, doc, names):
-    return f"/// {doc}\n#[derive(Clone, Copy)]\npub enum {name} {{\n" + "".join(f"    {n},\n" for n in names) + "}\n"
+    return f"/// {doc}\n#[derive(Clone, Copy, PartialEq, Eq)]\npub enum {name} {{\n" + "".join(f"    {n},\n" for n in names) + "}\n"
 
 
 def clauses(function, comment, kind, result, cases):
@@ -61,25 +60,34 @@ def clauses(function, comment, kind, result, cases):
     return out + "".join(f"{function} v.{n} = {value}\n" for n, value in cases)
 
 
-def rows(name, doc, kind, names, spelt):
-    return (f"/// {doc}\nconst {name}: [({kind}, &str); {len(names)}] = [\n"
-            + "".join(f'    ({kind}::{n}, "{spelt[n]}"),\n' for n in names) + "];\n")
+def spelled(path, first, kind, word, plural, module, names, spelt):
+    """The table of one enum, and what it says of itself as a spelled one."""
+    write(path, f"//! {first}\n"
+          f"ghost use Rattle.names.specs.{module}.{{all, place, spelling}};\n"
+          f"ghost use Rattle.names.specs.Laws.{{{plural}_equal, {plural}_stand, {plural}_read}};\n\n"
+          f"use crate::{kind};\nuse crate::spelled::Spelled;\n\n"
+          f"/// Each {word} with its spelling, in the order of the enum.\nconst ROWS: [({kind}, &str); {len(names)}] = [\n"
+          + "".join(f'    ({kind}::{n}, "{spelt[n]}"),\n' for n in names) + "];\n\n"
+          f"impl Spelled for {kind} {{\n"
+          + "".join(f"    ghost {member} = {{ {value} }};\n\n" for member, value in
+                    (("all", "all"), ("place", "place"), ("spelling", "spelling"), ("equal_at_one_place", f"{plural}_equal"),
+                     ("each_stands_at_its_place", f"{plural}_stand"), ("each_is_read_from_its_spelling", f"{plural}_read")))
+          + "    fn place(self) -> u8 {\n        self as u8\n    }\n\n"
+          f"    fn rows() -> &'static [({kind}, &'static str)] {{\n        &ROWS\n    }}\n}}\n")
 
 
 def spec(path, first, kind, word, names, spelt, more=()):
     """The definitions over one enum."""
     truths = "true, false, " if more else ""
-    uses = [f"use Rattle.std.specs.Prelude.{{ℕ, Bool, {truths}List, [], ◌∷◌, codes, Option, ◌==◌}}",
+    uses = [f"use Rattle.std.specs.Prelude.{{ℕ, Bool, {truths}List, [], ◌∷◌, codes, ◌==◌}}",
             f"use Rattle.names.specs.declared.{kind}.{{{kind}}}",
-            f"use Rattle.names.specs.declared.{kind}.TheVariants as v",
-            "use Rattle.names.specs.Rows.{sought, spelt}"]
+            f"use Rattle.names.specs.declared.{kind}.TheVariants as v"]
     parts = [
         clauses("place", f"the place of a {word} in its list", kind, "ℕ", [(n, i) for i, n in enumerate(names)]),
         f"-- two {word}s are the same\nabbrev pub same : {kind} → {kind} → Bool\nsame a b = place a == place b\n",
         *more,
         clauses("spelling", f"how a {word} is written", kind, "List ℕ", [(n, f'codes "{spelt[n]}"') for n in names]),
         f"-- every {word}, by place\nabbrev pub all : List {kind}\nall =\n{listed(names)}\n",
-        f"-- the {word} that a text spells\nunfoldable pub read : List ℕ → Option {kind}\nread text = sought (spelt spelling all) text\n",
     ]
     write(path, f"-- {first}\n" + "\n".join(uses) + "\n\n" + "\n".join(parts))
 
@@ -114,29 +122,14 @@ def main():
 
     write("src/lib.rt",
           "//! The tags of elements, the names of attributes and the units of lengths.\n#![tactic(auto)]\n\n"
-          + "".join(f"mod {m};\n" for m in ("attribute_rows", "attributes", "inherited", "rows", "tag_rows", "tags", "units")) + "\n"
+          + "".join(f"mod {m};\n" for m in ("attributes", "inherited", "rows", "spelled", "tags", "units")) + "\n"
+          + "pub use rows::find;\npub use spelled::Spelled;\n\n"
           + enum("EId", "The tag of an element.", eids) + "\n"
           + enum("AId", "The name of an attribute.", aids) + "\n"
           + enum("LengthUnit", "The unit of a length.", UNITS))
 
-    write("src/tag_rows.rt",
-          "//! The tags with their spellings.\n"
-          "ghost use Rattle.std.specs.Prelude.{◌≡◌};\nghost use Rattle.names.specs.EIds.{all, spelling};\n"
-          "ghost use Rattle.names.specs.Rows.{shown, spelt};\n\nuse crate::EId;\n\n"
-          + rows("ROWS", "Each tag with its spelling, in the order of the enum.", "EId", eids, eid_spelt)
-          + "\n/// Each tag with its spelling, in the order of the enum.\npub(crate) fn rows() -> &'static [(EId, &'static str)]\n"
-          "    ensures { shown result.now ≡ spelt spelling all }\n{\n    &ROWS\n}\n")
-
-    parts = [aids[i:i + PART] for i in range(0, len(aids), PART)]
-    words = ["first", "second", "third", "fourth"]
-    write("src/attribute_rows.rt",
-          "//! The names of attributes with their spellings, in four parts, since long tables take long to check.\n"
-          "ghost use Rattle.std.specs.Prelude.{◌≡◌};\nghost use Rattle.names.specs.AIds.{spelling};\n"
-          "ghost use Rattle.names.specs.Parts.{part};\nghost use Rattle.names.specs.Rows.{shown, spelt};\n\nuse crate::AId;\n"
-          + "".join("\n" + rows(w.upper(), f"The {w} {len(p)} names.", "AId", p, aid_spelt)
-                    + f"\n/// The rows of the {w} part.\npub(crate) fn {w}() -> &'static [(AId, &'static str)]\n"
-                    f"    ensures {{ shown result.now ≡ spelt spelling (part {i}) }}\n{{\n    &{w.upper()}\n}}\n"
-                    for i, (w, p) in enumerate(zip(words, parts))))
+    spelled("src/tags.rt", "The tags of elements: how they are written.", "EId", "tag", "tags", "EIds", eids, eid_spelt)
+    spelled("src/attributes.rt", "The names of attributes: how they are written.", "AId", "name", "names", "AIds", aids, aid_spelt)
 
     def chosen(function, doc, set_):
         arms = " | ".join(f"AId::{n}" for n in aids if n in set_)
@@ -155,8 +148,7 @@ def main():
          "AId", "name", aids, aid_spelt,
          [clauses("is_inheritable", "a value of this name reaches all that lies below its element", "AId", "Bool", truth(inherited)),
           clauses("none_is_absent", "the value `none` says that there is no value", "AId", "Bool", truth(absent))])
-    for function, set_ in (("is_inheritable", inherited), ("none_is_absent", absent)):
-        write(f"proofs/AId/{function}/Answers.antt", each_in_turn(function, [n for n in aids if n in set_]))
+    write("proofs/AId/is_inheritable/Answers.antt", each_in_turn("is_inheritable", [n for n in aids if n in inherited]))
     subprocess.run(["rt", "fmt"], cwd=CRATE, check=True)
 
 

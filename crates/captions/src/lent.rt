@@ -2,8 +2,8 @@
 use crate::answer::{Answer, NoAnswer};
 use crate::line::Poke;
 use card::{
-    Attribute, Length, MAX_ATTRIBUTES, MAX_BYTES, MAX_LENGTHS, MAX_NODES, Marks, NodeData,
-    Run, TableCounts, Tables,
+    Attribute, Length, MAX_ATTRIBUTES, MAX_BYTES, MAX_LENGTHS, MAX_NODES, Marks, NodeData, Run,
+    TableCounts, Tables,
 };
 use names::{AId, LengthUnit};
 use std::alloc::{AllocError, Global};

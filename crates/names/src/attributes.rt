@@ -1,5 +1,4 @@
 //! The names of attributes: how they are written.
-ghost use Rattle.std.specs.Prelude.{◌≡◌};
 ghost use Rattle.names.specs.AIds.{all, place, spelling};
 ghost use Rattle.names.specs.Laws.{names_equal, names_stand, names_read};
 

@@ -106,7 +106,7 @@ impl WholeTables<'_> {
     }
 
     /// The lowest node that is out of order.
-    pub(crate) fn find_out_of_order(self) -> Option<u32>
+    pub fn find_out_of_order(self) -> Option<u32>
         ensures the_lowest_node_out_of_order { result ≡ lowest_out_of_order (entries self.entry.tables) self.entry.counts }
     {
         let mut notes = self.find_links();

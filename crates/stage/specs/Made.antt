@@ -7,5 +7,5 @@ use Rattle.stage.specs.Stages.{is_table}
 
 -- a table is taken as it is, and other bytes are refused
 abbrev pub TableMade : List ℕ → Result TableStage Fault → Type 0
-TableMade bs (Ok table) = (is_table bs ≡ true) × (table.bytes.now ≡ bs)
+TableMade bs (Ok table) = (is_table bs ≡ true) × (table.table.bytes.now ≡ bs)
 TableMade bs (Err f) = (is_table bs ≡ false) × (f ≡ fault.WrongTable)

@@ -30,6 +30,7 @@ pub fn record_answers<S: Stage>(
     ensures drawn { drawn.new ≡ recorded (S.Stage.drawn stage.now) count drawn.old }
     ensures flows { flows.new ≡ recorded (S.Stage.flow stage.now) count flows.old }
 {
+    // By number: over `iter_mut` of both tables the proof loses what was written, and did not close.
     for k in 0..count {
         drawn[k as usize] = stage.is_drawn(k);
         flows[k as usize] = stage.flow(k);

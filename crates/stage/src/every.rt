@@ -4,7 +4,7 @@ ghost use Rattle.std.specs.Prelude.{true, None};
 use crate::asked::Stage;
 
 /// Every number is drawn, and none has a flow.
-#[derive(Clone, Copy)]
+#[derive(Clone, Copy, Debug, PartialEq, Eq)]
 pub struct EveryStage;
 
 impl Stage for EveryStage {
@@ -12,13 +12,11 @@ impl Stage for EveryStage {
 
     ghost flow = { λ _ _. None };
 
-    fn is_drawn(&self, n: u32) -> bool {
-        let _ = n;
+    fn is_drawn(&self, _n: u32) -> bool {
         true
     }
 
-    fn flow(&self, n: u32) -> Option<u32> {
-        let _ = n;
+    fn flow(&self, _n: u32) -> Option<u32> {
         None
     }
 }

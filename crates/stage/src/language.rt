@@ -21,10 +21,9 @@ pub struct LanguageStage<'a> {
 fn speaks_language(doc: Document<'_>, k: u32, language: &[u8]) -> bool
     ensures { result ≡ speaks (card_of doc.entry) language.now k }
 {
-    match attribute::<Text>(doc, k, AId::SystemLanguage) {
-        None => true,
-        Some(Text(list)) => any_matches(list, language),
-    }
+    attribute::<Text>(doc, k, AId::SystemLanguage).is_none_or(|Text(list)| any_matches(
+        list, language,
+    ))
 }
 
 impl<'a> LanguageStage<'a> {

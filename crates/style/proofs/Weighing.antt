@@ -1,31 +1,28 @@
--- The laws of a font's weight: what an element's own font-weight gives, and one step from the weight around it.
-use Rattle.std.proofs.Common.{◌≡◌, ℕ, true, false, ◌∷◌, Some, None, Option, sym, ap, ◌∙◌}
-use Rattle.std.proofs.lemmas.Bool.{cond-true, cond-false}
+-- The laws of a font's weight: what an element's own font-weight gives, and the way down to an element.
+use Rattle.std.proofs.Common.{◌≡◌, ℕ, List, [], ◌∷◌, Option, sym, refl, ap, ◌∙◌}
+use Rattle.std.specs.Option.{option_map}
 use Rattle.names.specs.declared.AId.TheVariants as name
 use Rattle.card.specs.Contents.{Card, above}
-use Rattle.document.specs.Reads.{is_element, Leads}
+use Rattle.values.specs.Upward.{stepped}
 use Rattle.values.specs.Values.{own}
 use Rattle.values.specs.Keywords.{as_keyword}
+use Rattle.values.proofs.Asking.{shows_itself}
 use Rattle.style.specs.declared.keyword.Weighing.{Weighing}
 use Rattle.style.specs.Fonts.{weight_words, weighed, own_weight, weight_within, weight}
 
-module _ (card : Card) (k : ℕ) where
-  -- by what the element says
-  pub own_weighed : (around : ℕ) (o : Option Weighing) → o ≡ own (as_keyword weight_words) card k name.FontWeight → weighed around o ≡ own_weight card k around
+module _ (card : Card) where
+  -- an element's own weight, by what it says
+  pub own_weighed : (k around : ℕ) (o : Option Weighing) → option_map (λ x. x) o ≡ own (as_keyword weight_words) card k name.FontWeight → weighed around o ≡ own_weight card k around
   unfolding own_weight
-  own_weighed around o e = ap (weighed around) e
+  own_weighed k around o e = ap (weighed around) (sym (shows_itself o) ∙ e)
 
-  -- where the way up ends the weight is 400
-  pub weight_first : Leads card k None → 400 ≡ weight card k
-  unfolding weight weight_within
-  weight_first e = sym (ap (weight_within card) e)
+  -- within some elements the weight starts at 400, and each changes it
+  stepped_weight : (xs : List ℕ) → stepped (own_weight card) 400 xs ≡ weight_within card xs
+  unfolding weight_within
+  stepped_weight [] = refl
+  stepped_weight (e ∷ rest) = ap (own_weight card e) (stepped_weight rest)
 
-  -- an element changes the weight around it
-  pub weight_element : (p : ℕ) → Leads card k (Some p) → true ≡ is_element card k → own_weight card k (weight card p) ≡ weight card k
-  unfolding weight weight_within
-  weight_element p e h = sym (ap (weight_within card) (e.2 ∙ cond-true (is_element card k) (k ∷ above card p) (above card p) (sym h)))
-
-  -- a text does not
-  pub weight_text : (p : ℕ) → Leads card k (Some p) → false ≡ is_element card k → weight card p ≡ weight card k
+  -- so it does from the root down
+  pub weight_down : (k : ℕ) → stepped (own_weight card) 400 (above card k) ≡ weight card k
   unfolding weight
-  weight_text p e h = sym (ap (weight_within card) (e.2 ∙ cond-false (is_element card k) (k ∷ above card p) (above card p) (sym h)))
+  weight_down k = stepped_weight (above card k)

@@ -7,5 +7,5 @@ use Rattle.style.specs.Paints.{is_paint_table}
 
 -- a table is taken as it is, and other bytes are refused
 abbrev pub PaintMade : List ℕ → Result PaintTable Fault → Type 0
-PaintMade bs (Ok table) = (is_paint_table bs ≡ true) × (table.bytes.now ≡ bs)
+PaintMade bs (Ok table) = (is_paint_table bs ≡ true) × (table.table.bytes.now ≡ bs)
 PaintMade bs (Err f) = (is_paint_table bs ≡ false) × (f ≡ fault.WrongTable)

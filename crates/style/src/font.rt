@@ -7,7 +7,7 @@ use crate::keyword::{FontOpticalSizing, FontStretch, Weighing};
 use crate::words::is_nearest;
 use document::Document;
 use names::AId;
-use values::{FontStyle, Visibility, attribute, find_attribute};
+use values::{FontStyle, Visibility, attribute, find_attribute, step_down};
 
 /// Whether the font is upright or slanted.
 pub fn font_style(doc: Document<'_>, k: u32) -> FontStyle
@@ -42,25 +42,16 @@ fn reweigh(weighing: Weighing, around: u16) -> u16
 fn own_weight(doc: Document<'_>, k: u32, around: u16) -> u16
     ensures { result ≡ own_weight (card_of doc.entry) k around }
 {
-    match attribute::<Weighing>(doc, k, AId::FontWeight) {
-        None => around,
-        Some(weighing) => reweigh(weighing, around),
-    }
+    let own = attribute::<Weighing>(doc, k, AId::FontWeight);
+    own.map_or(around, |weighing| reweigh(weighing, around))
 }
 
 /// How bold the font is: from 400, then from the outermost element down.
 pub fn resolve_font_weight(doc: Document<'_>, k: u32) -> u16
     ensures { result ≡ weight (card_of doc.entry) k }
 {
-    let Some(parent) = doc.parent(k) else {
-        return 400;
-    };
-    let around = resolve_font_weight(doc, parent);
-    if doc.is_element(k) {
-        own_weight(doc, k, around)
-    } else {
-        around
-    }
+    let step = |element, around| own_weight(doc, element, around);
+    step_down(doc, k, 400, &step)
 }
 
 /// Whether small letters are shown as small capitals.
@@ -85,8 +76,6 @@ pub fn font_optical_sizing(doc: Document<'_>, k: u32) -> FontOpticalSizing
 pub fn is_visible(doc: Document<'_>, k: u32) -> bool
     ensures { result ≡ visible (card_of doc.entry) k }
 {
-    match find_attribute::<Visibility>(doc, k, AId::Visibility).unwrap_or(Visibility::Visible) {
-        Visibility::Visible => true,
-        Visibility::Hidden | Visibility::Collapse => false,
-    }
+    find_attribute::<Visibility>(doc, k, AId::Visibility).unwrap_or(Visibility::Visible)
+        == Visibility::Visible
 }

@@ -1,7 +1,7 @@
 //! The keywords of a font.
 
 /// How wide a font is.
-#[derive(Clone, Copy)]
+#[derive(Clone, Copy, Debug, PartialEq, Eq)]
 pub enum FontStretch {
     Normal,
     UltraCondensed,
@@ -15,14 +15,14 @@ pub enum FontStretch {
 }
 
 /// Whether a font is fitted to the size at which it is shown.
-#[derive(Clone, Copy)]
+#[derive(Clone, Copy, Debug, PartialEq, Eq)]
 pub enum FontOpticalSizing {
     Auto,
     None,
 }
 
 /// What a `font-weight` says: a weight, or a step from the weight around.
-#[derive(Clone, Copy)]
+#[derive(Clone, Copy, Debug, PartialEq, Eq)]
 pub enum Weighing {
     Fixed(u16),
     Bolder,

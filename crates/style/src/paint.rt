@@ -19,7 +19,7 @@ pub trait Paint {
 }
 
 /// Every number is filled with 1, and has no outline: what stands in a clip path is drawn so.
-#[derive(Clone, Copy)]
+#[derive(Clone, Copy, Debug, PartialEq, Eq)]
 pub struct ClipPaint;
 
 impl Paint for ClipPaint {
@@ -27,19 +27,17 @@ impl Paint for ClipPaint {
 
     ghost stroke = { λ _ _. None };
 
-    fn fill(&self, n: u32) -> Option<u32> {
-        let _ = n;
+    fn fill(&self, _n: u32) -> Option<u32> {
         Some(1)
     }
 
-    fn stroke(&self, n: u32) -> Option<u32> {
-        let _ = n;
+    fn stroke(&self, _n: u32) -> Option<u32> {
         None
     }
 }
 
 /// No number has any paint.
-#[derive(Clone, Copy)]
+#[derive(Clone, Copy, Debug, PartialEq, Eq)]
 pub struct NoPaint;
 
 impl Paint for NoPaint {
@@ -47,13 +45,11 @@ impl Paint for NoPaint {
 
     ghost stroke = { λ _ _. None };
 
-    fn fill(&self, n: u32) -> Option<u32> {
-        let _ = n;
+    fn fill(&self, _n: u32) -> Option<u32> {
         None
     }
 
-    fn stroke(&self, n: u32) -> Option<u32> {
-        let _ = n;
+    fn stroke(&self, _n: u32) -> Option<u32> {
         None
     }
 }

@@ -1,13 +1,12 @@
--- The laws of a font's size: what an element's own font-size gives, and one step from the size around it.
-use Rattle.std.proofs.Common.{◌≡◌, ℕ, Bool, true, false, ◌∷◌, is_some, Some, None, Option, unwrap_or, sym, refl, ap, ◌∙◌}
+-- The laws of a font's size: what an element's own font-size gives, and the way down to an element.
+use Rattle.std.proofs.Common.{◌≡◌, ℕ, Bool, true, false, List, [], ◌∷◌, is_some, Some, None, Option, unwrap_or, sym, refl, ap, ◌∙◌}
 use lib.Ieee.{Float}
-use Rattle.std.proofs.lemmas.Bool.{cond-true, cond-false}
 use Rattle.names.specs.declared.AId.TheVariants as name
 use Rattle.card.specs.declared.record.Length.{Length}
 use Rattle.card.specs.Contents.{Attr, Card, above}
-use Rattle.document.specs.Reads.{is_element, Leads}
 use Rattle.document.specs.Said.{attribute}
 use Rattle.values.specs.declared.keyword.NamedSize.{NamedSize}
+use Rattle.values.specs.Upward.{stepped}
 use Rattle.values.specs.Values.{bound, has, raw}
 use Rattle.values.specs.Kinds.{as_length}
 use Rattle.values.specs.Keywords.{as_keyword, size_words}
@@ -40,18 +39,14 @@ module _ (s : Settings) (card : Card) (k : ℕ) (around : Float) where
   pub own_chosen : (l : Option Length) (w : Option NamedSize) (any : Bool) → l ≡ raw as_length card k name.FontSize → w ≡ raw (as_keyword size_words) card k name.FontSize → any ≡ has name.FontSize card k → chosen s around l w any ≡ own_size s card k around
   own_chosen l w any p q r = (λ i. chosen s around (p i) (q i) (r i)) ∙ own_is
 
-module _ (s : Settings) (card : Card) (k : ℕ) where
-  -- where the way up ends the setting counts
-  pub size_first : Leads card k None → s.size ≡ size s card k
-  unfolding size size_within
-  size_first e = sym (ap (size_within s card) e)
+module _ (s : Settings) (card : Card) where
+  -- within some elements the size starts at the setting, and each changes it
+  stepped_size : (xs : List ℕ) → stepped (own_size s card) s.size xs ≡ size_within s card xs
+  unfolding size_within
+  stepped_size [] = refl
+  stepped_size (e ∷ rest) = ap (own_size s card e) (stepped_size rest)
 
-  -- an element changes the size around it
-  pub size_element : (p : ℕ) → Leads card k (Some p) → true ≡ is_element card k → own_size s card k (size s card p) ≡ size s card k
-  unfolding size size_within
-  size_element p e h = sym (ap (size_within s card) (e.2 ∙ cond-true (is_element card k) (k ∷ above card p) (above card p) (sym h)))
-
-  -- a text does not
-  pub size_text : (p : ℕ) → Leads card k (Some p) → false ≡ is_element card k → size s card p ≡ size s card k
+  -- so it does from the root down
+  pub size_down : (k : ℕ) → stepped (own_size s card) s.size (above card k) ≡ size s card k
   unfolding size
-  size_text p e h = sym (ap (size_within s card) (e.2 ∙ cond-false (is_element card k) (k ∷ above card p) (above card p) (sym h)))
+  size_down k = stepped_size (above card k)

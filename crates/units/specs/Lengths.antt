@@ -1,5 +1,5 @@
 -- Lengths in the units of the view, and the settings that they are computed from. Each operation rounds once.
-use Rattle.std.specs.Prelude.{ℕ, Bool, cond, ◌&&◌, Some, None, Ok, Err, Option, Result, Float}
+use Rattle.std.specs.Prelude.{ℕ, Bool, cond, ◌&&◌, List, [], ◌∷◌, Some, None, Ok, Err, Option, Result, Float}
 use Rattle.std.specs.Float.Ieee.{lt}
 use Rattle.std.specs.Float.{float_is_finite}
 use Rattle.std.specs.Option.{unwrap_or}
@@ -9,6 +9,8 @@ use Rattle.names.specs.AIds as names
 use Rattle.names.specs.declared.LengthUnit.TheVariants as unit
 use Rattle.card.specs.declared.fault.Fault.{Fault}
 use Rattle.card.specs.declared.fault.Fault.TheVariants as fault
+use Rattle.card.specs.declared.fault.Setting.{Setting}
+use Rattle.card.specs.declared.fault.Setting.TheVariants as setting
 use Rattle.card.specs.declared.record.Length.{Length}
 use Rattle.units.specs.declared.settings.Settings.{Settings}
 use Rattle.units.specs.Constants.{nought, two, six, seventy_two, hundred, cm_per_inch, mm_per_inch, times, over}
@@ -17,13 +19,17 @@ use Rattle.units.specs.Constants.{nought, two, six, seventy_two, hundred, cm_per
 abbrev pub in_range : Float → Bool
 in_range x = float_is_finite x && lt nought x
 
--- the index of the first setting that is out of range
-abbrev pub first_out_of_range : Settings → Option ℕ
+-- each setting with its value, in the order in which they are checked
+abbrev pub rows : Settings → List (Setting × Float)
+rows s = (setting.Dpi, s.dpi) ∷ (setting.Size, s.size) ∷ (setting.Width, s.width) ∷ (setting.Height, s.height) ∷ (setting.Diagonal, s.diagonal) ∷ []
+
+-- the first setting that is out of range
+abbrev pub first_out_of_range : Settings → Option Setting
 first_out_of_range s =
-    cond (in_range s.dpi) (cond (in_range s.size) (cond (in_range s.width) (cond (in_range s.height) (cond (in_range s.diagonal) None (Some 4)) (Some 3)) (Some 2)) (Some 1)) (Some 0)
+    cond (in_range s.dpi) (cond (in_range s.size) (cond (in_range s.width) (cond (in_range s.height) (cond (in_range s.diagonal) None (Some setting.Diagonal)) (Some setting.Height)) (Some setting.Width)) (Some setting.Size)) (Some setting.Dpi)
 
 -- a setting out of range is refused, the first
-abbrev pub settings_refused : Option ℕ → Result (Unit {0}) Fault
+abbrev pub settings_refused : Option Setting → Result (Unit {0}) Fault
 settings_refused None = Ok tt
 settings_refused (Some i) = Err (fault.SettingOutOfRange i)
 

@@ -1,8 +1,8 @@
 //! What lengths and sizes are computed from.
 ghost use Rattle.std.specs.Prelude.{◌≡◌};
-ghost use Rattle.units.specs.Lengths.{in_range, first_out_of_range, settings_refused};
+ghost use Rattle.units.specs.Lengths.{in_range, rows, first_out_of_range, settings_refused};
 
-use card::Fault;
+use card::{Fault, Setting};
 
 /// What lengths and sizes are computed from: dots to the inch, the size to begin with, and the view's measures.
 #[derive(Clone, Copy)]
@@ -21,34 +21,38 @@ fn is_in_range(x: f32) -> bool
     x.is_finite() && x > 0.0
 }
 
-// The index of the first setting that is out of range.
-fn find_out_of_range(settings: &Settings) -> Option<u8>
-    ensures { result ≡ first_out_of_range settings.now }
-{
-    if !is_in_range(settings.dpi) {
-        return Some(0);
+impl Settings {
+    // Each setting with its value, in the order in which they are checked.
+    fn rows(&self) -> [(Setting, f32); 5]
+        ensures { result ≡ rows self.now }
+    {
+        [
+            (Setting::Dpi, self.dpi),
+            (Setting::Size, self.size),
+            (Setting::Width, self.width),
+            (Setting::Height, self.height),
+            (Setting::Diagonal, self.diagonal),
+        ]
     }
-    if !is_in_range(settings.size) {
-        return Some(1);
-    }
-    if !is_in_range(settings.width) {
-        return Some(2);
-    }
-    if !is_in_range(settings.height) {
-        return Some(3);
-    }
-    if !is_in_range(settings.diagonal) {
-        return Some(4);
-    }
-    None
 }
 
-/// Refuses settings of which one is not finite and above 0: the first such is named by its index.
+// The first setting that is out of range.
+fn find_out_of_range(settings: &Settings) -> Option<Setting>
+    ensures { result ≡ first_out_of_range settings.now }
+{
+    settings
+        .rows()
+        .iter()
+        .find(|row| !is_in_range(row.1))
+        .map(|row| row.0)
+}
+
+/// Refuses settings of which one is not finite and above 0: the first such is named.
 pub fn check_settings(settings: &Settings) -> Result<(), Fault>
     ensures { result ≡ settings_refused (first_out_of_range settings.now) }
 {
     match find_out_of_range(settings) {
         None => Ok(()),
-        Some(index) => Err(Fault::SettingOutOfRange(index)),
+        Some(setting) => Err(Fault::SettingOutOfRange(setting)),
     }
 }

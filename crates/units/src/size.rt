@@ -8,7 +8,7 @@ use crate::settings::Settings;
 use card::Length;
 use document::Document;
 use names::AId;
-use values::{NamedSize, try_attribute};
+use values::{NamedSize, step_down, try_attribute};
 
 const STEP: f32 = 1.2;
 
@@ -64,13 +64,6 @@ fn own_font_size(doc: Document<'_>, k: u32, settings: &Settings, around: f32) ->
 pub fn resolve_font_size(doc: Document<'_>, k: u32, settings: &Settings) -> f32
     ensures { result ≡ size settings.now (card_of doc.entry) k }
 {
-    let Some(parent) = doc.parent(k) else {
-        return settings.size;
-    };
-    let around = resolve_font_size(doc, parent, settings);
-    if doc.is_element(k) {
-        own_font_size(doc, k, settings, around)
-    } else {
-        around
-    }
+    let step = |element, around| own_font_size(doc, element, settings, around);
+    step_down(doc, k, settings.size, &step)
 }

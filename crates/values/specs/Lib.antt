@@ -2,3 +2,4 @@ pub mod Values
 pub mod Kinds
 pub mod Keywords
 pub mod Attributes
+pub mod Upward

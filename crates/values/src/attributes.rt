@@ -7,7 +7,7 @@ ghost use Rattle.values.specs.Kinds.{numbers_shown};
 
 use crate::keyword::{TextAnchor, WritingMode};
 use crate::kinds::{NumberList, Text};
-use crate::search::{attribute, find_attribute, is};
+use crate::search::{attribute, find_attribute};
 use document::Document;
 use names::AId;
 
@@ -29,10 +29,7 @@ pub fn convert_writing_mode(doc: Document<'_>, k: u32) -> WritingMode
 pub fn is_undisplayed(doc: Document<'_>, k: u32) -> bool
     ensures { result ≡ undisplayed (card_of doc.entry) k }
 {
-    match attribute::<Text>(doc, k, AId::Display) {
-        None => false,
-        Some(Text(value)) => is(value, b"none"),
-    }
+    attribute::<Text>(doc, k, AId::Display).is_some_and(|Text(value)| value == b"none".as_slice())
 }
 
 /// An element's own list of angles, as bare numbers.

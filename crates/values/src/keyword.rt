@@ -1,7 +1,7 @@
 //! The keywords that an attribute's value may be.
 
 /// Which point of a chunk stands at its place.
-#[derive(Clone, Copy)]
+#[derive(Clone, Copy, Debug, PartialEq, Eq)]
 pub enum TextAnchor {
     Start,
     Middle,
@@ -9,7 +9,7 @@ pub enum TextAnchor {
 }
 
 /// Which line of a text stands on the line of what lies around it.
-#[derive(Clone, Copy)]
+#[derive(Clone, Copy, Debug, PartialEq, Eq)]
 pub enum AlignmentBaseline {
     Auto,
     Baseline,
@@ -26,7 +26,7 @@ pub enum AlignmentBaseline {
 }
 
 /// Which line of a text its characters stand on.
-#[derive(Clone, Copy)]
+#[derive(Clone, Copy, Debug, PartialEq, Eq)]
 pub enum DominantBaseline {
     Auto,
     UseScript,
@@ -43,14 +43,14 @@ pub enum DominantBaseline {
 }
 
 /// What is stretched where a text is to have a given length.
-#[derive(Clone, Copy)]
+#[derive(Clone, Copy, Debug, PartialEq, Eq)]
 pub enum LengthAdjust {
     Spacing,
     SpacingAndGlyphs,
 }
 
 /// Whether a font is upright or slanted.
-#[derive(Clone, Copy)]
+#[derive(Clone, Copy, Debug, PartialEq, Eq)]
 pub enum FontStyle {
     Normal,
     Italic,
@@ -58,7 +58,7 @@ pub enum FontStyle {
 }
 
 /// Whether what is drawn is to be seen.
-#[derive(Clone, Copy)]
+#[derive(Clone, Copy, Debug, PartialEq, Eq)]
 pub enum Visibility {
     Visible,
     Hidden,
@@ -66,7 +66,7 @@ pub enum Visibility {
 }
 
 /// A font size by name: seven sizes of their own, and two steps from the size around.
-#[derive(Clone, Copy)]
+#[derive(Clone, Copy, Debug, PartialEq, Eq)]
 pub enum NamedSize {
     XxSmall,
     XSmall,
@@ -80,7 +80,7 @@ pub enum NamedSize {
 }
 
 /// The direction in which a text is written.
-#[derive(Clone, Copy)]
+#[derive(Clone, Copy, Debug, PartialEq, Eq)]
 pub enum WritingMode {
     LeftToRight,
     TopToBottom,

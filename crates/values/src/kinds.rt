@@ -38,12 +38,10 @@ impl<'a> FromValue<'a> for Length {
     ghost reads = { as_length };
 
     fn from_value(value: Value<'a>) -> Option<Length> {
-        if !value.marks.single {
-            return None;
-        }
-        match value.lengths {
-            [length, ..] => Some(*length),
-            [] => None,
+        if value.marks.single {
+            value.lengths.first().copied()
+        } else {
+            None
         }
     }
 }
@@ -68,10 +66,6 @@ impl<'a> FromValue<'a> for NumberList<'a> {
     ghost reads = { as_numbers };
 
     fn from_value(value: Value<'a>) -> Option<NumberList<'a>> {
-        if value.marks.plain {
-            Some(NumberList(value.lengths))
-        } else {
-            None
-        }
+        value.marks.plain.then_some(NumberList(value.lengths))
     }
 }

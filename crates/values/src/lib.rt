@@ -6,6 +6,7 @@ mod from_value;
 mod keyword;
 mod kinds;
 mod search;
+mod upward;
 mod words;
 
 pub use attributes::{convert_writing_mode, is_undisplayed, rotate_list, text_anchor};
@@ -16,3 +17,5 @@ pub use keyword::{
 };
 pub use kinds::{LengthList, NumberList, Text};
 pub use search::{attribute, closest_with, find_attribute, try_attribute};
+pub use upward::{closest_among, closest_that, step_down};
+pub use words::Keyword;

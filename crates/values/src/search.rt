@@ -1,29 +1,22 @@
 //! One search for every kind of value: raw, own and nearest.
 ghost use Rattle.std.specs.Prelude.{◌≡◌, take};
 ghost use Rattle.std.specs.Option.{option_map};
-ghost use Rattle.std.specs.Str.{bytes_eq};
 ghost use Rattle.card.specs.Contents.{above};
 ghost use Rattle.document.specs.Reads.{card_of};
 ghost use Rattle.document.specs.Said.{first_passing};
 ghost use Rattle.values.specs.Values.{has, is_absent, raw, own, closest, bearer, nearest};
 
 use crate::from_value::FromValue;
+use crate::upward::closest_among;
 use card::MAX_DEPTH;
 use document::Document;
 use names::AId;
-
-// Whether the bytes are this word.
-pub(crate) fn is(bytes: &[u8], word: &[u8]) -> bool
-    ensures { result ≡ bytes_eq bytes.now word.now }
-{
-    bytes == word
-}
 
 // Whether a value says that there is none.
 fn is_absent(name: AId, value: &[u8]) -> bool
     ensures { result ≡ is_absent name value.now }
 {
-    name.none_is_absent() && is(value, b"none")
+    name.none_is_absent() && value == b"none".as_slice()
 }
 
 /// A raw value: what the first attribute of the name gives.
@@ -49,18 +42,7 @@ pub fn attribute<'a, T: FromValue<'a>>(doc: Document<'a>, k: u32, name: AId) -> 
 fn find_among(doc: Document<'_>, k: u32, name: AId, most: usize) -> Option<u32>
     ensures { result ≡ first_passing (has name (card_of doc.entry)) (take most (above (card_of doc.entry) k)) }
 {
-    let mut at = k;
-    let mut left = most;
-    while left > 0 {
-        if doc.has_attribute(at, name) {
-            return Some(at);
-        }
-        if doc.is_element(at) {
-            left -= 1;
-        }
-        at = doc.parent(at)?;
-    }
-    None
+    closest_among(doc, k, most, |at| doc.has_attribute(at, name))
 }
 
 /// The closest element, from a node upward, that has the name, whatever its value.

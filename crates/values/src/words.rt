@@ -1,6 +1,6 @@
 //! The words of each keyword, and the kinds of value that are one of them.
 ghost use Rattle.std.specs.Prelude.{◌≡◌};
-ghost use Rattle.names.specs.Rows.{shown, sought};
+ghost use Rattle.names.specs.Rows.{shown};
 ghost use Rattle.values.specs.declared.keyword.AlignmentBaseline.{AlignmentBaseline};
 ghost use Rattle.values.specs.declared.keyword.DominantBaseline.{DominantBaseline};
 ghost use Rattle.values.specs.declared.keyword.FontStyle.{FontStyle};
@@ -9,7 +9,7 @@ ghost use Rattle.values.specs.declared.keyword.NamedSize.{NamedSize};
 ghost use Rattle.values.specs.declared.keyword.TextAnchor.{TextAnchor};
 ghost use Rattle.values.specs.declared.keyword.Visibility.{Visibility};
 ghost use Rattle.values.specs.declared.keyword.WritingMode.{WritingMode};
-ghost use Rattle.values.specs.Keywords.{as_keyword, anchor_words, alignment_words, dominant_words, adjust_words, style_words, visibility_words, size_words, as_writing_mode};
+ghost use Rattle.values.specs.Keywords.{Words, as_keyword, anchor_words, alignment_words, dominant_words, adjust_words, style_words, visibility_words, size_words, as_writing_mode};
 
 use crate::from_value::FromValue;
 use crate::keyword::{
@@ -17,71 +17,7 @@ use crate::keyword::{
     Visibility, WritingMode,
 };
 use card::Value;
-
-const ANCHORS: [(TextAnchor, &str); 3] = [
-    (TextAnchor::Start, "start"),
-    (TextAnchor::Middle, "middle"),
-    (TextAnchor::End, "end"),
-];
-
-const ALIGNMENTS: [(AlignmentBaseline, &str); 12] = [
-    (AlignmentBaseline::Auto, "auto"),
-    (AlignmentBaseline::Baseline, "baseline"),
-    (AlignmentBaseline::BeforeEdge, "before-edge"),
-    (AlignmentBaseline::TextBeforeEdge, "text-before-edge"),
-    (AlignmentBaseline::Middle, "middle"),
-    (AlignmentBaseline::Central, "central"),
-    (AlignmentBaseline::AfterEdge, "after-edge"),
-    (AlignmentBaseline::TextAfterEdge, "text-after-edge"),
-    (AlignmentBaseline::Ideographic, "ideographic"),
-    (AlignmentBaseline::Alphabetic, "alphabetic"),
-    (AlignmentBaseline::Hanging, "hanging"),
-    (AlignmentBaseline::Mathematical, "mathematical"),
-];
-
-const DOMINANTS: [(DominantBaseline, &str); 12] = [
-    (DominantBaseline::Auto, "auto"),
-    (DominantBaseline::UseScript, "use-script"),
-    (DominantBaseline::NoChange, "no-change"),
-    (DominantBaseline::ResetSize, "reset-size"),
-    (DominantBaseline::Ideographic, "ideographic"),
-    (DominantBaseline::Alphabetic, "alphabetic"),
-    (DominantBaseline::Hanging, "hanging"),
-    (DominantBaseline::Mathematical, "mathematical"),
-    (DominantBaseline::Central, "central"),
-    (DominantBaseline::Middle, "middle"),
-    (DominantBaseline::TextAfterEdge, "text-after-edge"),
-    (DominantBaseline::TextBeforeEdge, "text-before-edge"),
-];
-
-const ADJUSTMENTS: [(LengthAdjust, &str); 2] = [
-    (LengthAdjust::Spacing, "spacing"),
-    (LengthAdjust::SpacingAndGlyphs, "spacingAndGlyphs"),
-];
-
-const STYLES: [(FontStyle, &str); 3] = [
-    (FontStyle::Normal, "normal"),
-    (FontStyle::Italic, "italic"),
-    (FontStyle::Oblique, "oblique"),
-];
-
-const VISIBILITIES: [(Visibility, &str); 3] = [
-    (Visibility::Visible, "visible"),
-    (Visibility::Hidden, "hidden"),
-    (Visibility::Collapse, "collapse"),
-];
-
-const SIZES: [(NamedSize, &str); 9] = [
-    (NamedSize::XxSmall, "xx-small"),
-    (NamedSize::XSmall, "x-small"),
-    (NamedSize::Small, "small"),
-    (NamedSize::Medium, "medium"),
-    (NamedSize::Large, "large"),
-    (NamedSize::XLarge, "x-large"),
-    (NamedSize::XxLarge, "xx-large"),
-    (NamedSize::Smaller, "smaller"),
-    (NamedSize::Larger, "larger"),
-];
+use names::find;
 
 const VERTICALS: [(WritingMode, &str); 4] = [
     (WritingMode::TopToBottom, "tb"),
@@ -90,99 +26,131 @@ const VERTICALS: [(WritingMode, &str); 4] = [
     (WritingMode::TopToBottom, "vertical-lr"),
 ];
 
-// The meaning of the word that a value is.
-fn keyword<T: Copy>(words: &[(T, &'static str)], value: &[u8]) -> Option<T>
-    ensures { result ≡ sought (shown words.now) value.now }
-{
-    for word in words {
-        if word.1.as_bytes() == value {
-            return Some(word.0);
-        }
-    }
-    None
+/// A kind of value that is one of some words, each beside what it means.
+pub trait Keyword: Copy + 'static {
+    ghost words: { Words Self };
+
+    /// The words, with their meanings.
+    fn words() -> &'static [(Self, &'static str)]
+        ensures { shown result.now ≡ words };
 }
 
-impl<'a> FromValue<'a> for TextAnchor {
-    ghost Meaning = { TextAnchor };
+impl<'a, K: Keyword> FromValue<'a> for K {
+    ghost Meaning = { K };
 
     ghost shows = { λ x. x };
 
-    ghost reads = { as_keyword anchor_words };
+    ghost reads = { as_keyword K.words };
 
-    fn from_value(value: Value<'a>) -> Option<TextAnchor> {
-        keyword(&ANCHORS, value.bytes)
+    fn from_value(value: Value<'a>) -> Option<K> {
+        find(K::words(), value.bytes)
     }
 }
 
-impl<'a> FromValue<'a> for AlignmentBaseline {
-    ghost Meaning = { AlignmentBaseline };
+impl Keyword for TextAnchor {
+    ghost words = { anchor_words };
 
-    ghost shows = { λ x. x };
-
-    ghost reads = { as_keyword alignment_words };
-
-    fn from_value(value: Value<'a>) -> Option<AlignmentBaseline> {
-        keyword(&ALIGNMENTS, value.bytes)
+    fn words() -> &'static [(TextAnchor, &'static str)] {
+        &[
+            (TextAnchor::Start, "start"),
+            (TextAnchor::Middle, "middle"),
+            (TextAnchor::End, "end"),
+        ]
     }
 }
 
-impl<'a> FromValue<'a> for DominantBaseline {
-    ghost Meaning = { DominantBaseline };
+impl Keyword for AlignmentBaseline {
+    ghost words = { alignment_words };
 
-    ghost shows = { λ x. x };
-
-    ghost reads = { as_keyword dominant_words };
-
-    fn from_value(value: Value<'a>) -> Option<DominantBaseline> {
-        keyword(&DOMINANTS, value.bytes)
+    fn words() -> &'static [(AlignmentBaseline, &'static str)] {
+        &[
+            (AlignmentBaseline::Auto, "auto"),
+            (AlignmentBaseline::Baseline, "baseline"),
+            (AlignmentBaseline::BeforeEdge, "before-edge"),
+            (AlignmentBaseline::TextBeforeEdge, "text-before-edge"),
+            (AlignmentBaseline::Middle, "middle"),
+            (AlignmentBaseline::Central, "central"),
+            (AlignmentBaseline::AfterEdge, "after-edge"),
+            (AlignmentBaseline::TextAfterEdge, "text-after-edge"),
+            (AlignmentBaseline::Ideographic, "ideographic"),
+            (AlignmentBaseline::Alphabetic, "alphabetic"),
+            (AlignmentBaseline::Hanging, "hanging"),
+            (AlignmentBaseline::Mathematical, "mathematical"),
+        ]
     }
 }
 
-impl<'a> FromValue<'a> for LengthAdjust {
-    ghost Meaning = { LengthAdjust };
+impl Keyword for DominantBaseline {
+    ghost words = { dominant_words };
 
-    ghost shows = { λ x. x };
-
-    ghost reads = { as_keyword adjust_words };
-
-    fn from_value(value: Value<'a>) -> Option<LengthAdjust> {
-        keyword(&ADJUSTMENTS, value.bytes)
+    fn words() -> &'static [(DominantBaseline, &'static str)] {
+        &[
+            (DominantBaseline::Auto, "auto"),
+            (DominantBaseline::UseScript, "use-script"),
+            (DominantBaseline::NoChange, "no-change"),
+            (DominantBaseline::ResetSize, "reset-size"),
+            (DominantBaseline::Ideographic, "ideographic"),
+            (DominantBaseline::Alphabetic, "alphabetic"),
+            (DominantBaseline::Hanging, "hanging"),
+            (DominantBaseline::Mathematical, "mathematical"),
+            (DominantBaseline::Central, "central"),
+            (DominantBaseline::Middle, "middle"),
+            (DominantBaseline::TextAfterEdge, "text-after-edge"),
+            (DominantBaseline::TextBeforeEdge, "text-before-edge"),
+        ]
     }
 }
 
-impl<'a> FromValue<'a> for FontStyle {
-    ghost Meaning = { FontStyle };
+impl Keyword for LengthAdjust {
+    ghost words = { adjust_words };
 
-    ghost shows = { λ x. x };
-
-    ghost reads = { as_keyword style_words };
-
-    fn from_value(value: Value<'a>) -> Option<FontStyle> {
-        keyword(&STYLES, value.bytes)
+    fn words() -> &'static [(LengthAdjust, &'static str)] {
+        &[
+            (LengthAdjust::Spacing, "spacing"),
+            (LengthAdjust::SpacingAndGlyphs, "spacingAndGlyphs"),
+        ]
     }
 }
 
-impl<'a> FromValue<'a> for Visibility {
-    ghost Meaning = { Visibility };
+impl Keyword for FontStyle {
+    ghost words = { style_words };
 
-    ghost shows = { λ x. x };
-
-    ghost reads = { as_keyword visibility_words };
-
-    fn from_value(value: Value<'a>) -> Option<Visibility> {
-        keyword(&VISIBILITIES, value.bytes)
+    fn words() -> &'static [(FontStyle, &'static str)] {
+        &[
+            (FontStyle::Normal, "normal"),
+            (FontStyle::Italic, "italic"),
+            (FontStyle::Oblique, "oblique"),
+        ]
     }
 }
 
-impl<'a> FromValue<'a> for NamedSize {
-    ghost Meaning = { NamedSize };
+impl Keyword for Visibility {
+    ghost words = { visibility_words };
 
-    ghost shows = { λ x. x };
+    fn words() -> &'static [(Visibility, &'static str)] {
+        &[
+            (Visibility::Visible, "visible"),
+            (Visibility::Hidden, "hidden"),
+            (Visibility::Collapse, "collapse"),
+        ]
+    }
+}
 
-    ghost reads = { as_keyword size_words };
+impl Keyword for NamedSize {
+    ghost words = { size_words };
 
-    fn from_value(value: Value<'a>) -> Option<NamedSize> {
-        keyword(&SIZES, value.bytes)
+    fn words() -> &'static [(NamedSize, &'static str)] {
+        &[
+            (NamedSize::XxSmall, "xx-small"),
+            (NamedSize::XSmall, "x-small"),
+            (NamedSize::Small, "small"),
+            (NamedSize::Medium, "medium"),
+            (NamedSize::Large, "large"),
+            (NamedSize::XLarge, "x-large"),
+            (NamedSize::XxLarge, "xx-large"),
+            (NamedSize::Smaller, "smaller"),
+            (NamedSize::Larger, "larger"),
+        ]
     }
 }
 
@@ -194,6 +162,6 @@ impl<'a> FromValue<'a> for WritingMode {
     ghost reads = { as_writing_mode };
 
     fn from_value(value: Value<'a>) -> Option<WritingMode> {
-        Some(keyword(&VERTICALS, value.bytes).unwrap_or(WritingMode::LeftToRight))
+        Some(find(&VERTICALS, value.bytes).unwrap_or(WritingMode::LeftToRight))
     }
 }

@@ -1,11 +1,10 @@
-use Rattle.std.proofs.Common.{◌≡◌, ◌+◌, ◌≤◌, length, take}
-use Rattle.std.specs.List.{suffix_len}
-use Rattle.stage.specs.Languages.{is_space}
+use Rattle.std.proofs.Common.{◌≡◌, length}
+use Rattle.stage.specs.Languages.{trimmed_end}
 use Rattle.stage.proofs.entry.trim_end.Given as goal
 
--- all from the end on are spaces
-abbrev pub invariant-loop-end : goal.invariant-loop-end
-invariant-loop-end l = (l.end ≤ length l.bytes) × (l.end + suffix_len is_space l.bytes ≡ length l.bytes + suffix_len is_space (take l.end l.bytes))
+-- what was left out are spaces
+abbrev pub invariant-loop-rest : goal.invariant-loop-rest
+invariant-loop-rest l = trimmed_end l.rest ≡ trimmed_end l.bytes
 
-abbrev pub decreases-loop-end : goal.decreases-loop-end
-decreases-loop-end l = l.end
+abbrev pub decreases-loop-rest : goal.decreases-loop-rest
+decreases-loop-rest l = length l.rest

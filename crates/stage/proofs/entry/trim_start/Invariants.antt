@@ -1,11 +1,10 @@
-use Rattle.std.proofs.Common.{◌≡◌, ◌+◌, ◌-◌, ◌≤◌, length, drop}
-use Rattle.std.specs.List.{prefix_len}
-use Rattle.stage.specs.Languages.{is_space}
+use Rattle.std.proofs.Common.{◌≡◌, length}
+use Rattle.stage.specs.Languages.{trimmed_start}
 use Rattle.stage.proofs.entry.trim_start.Given as goal
 
--- all so far are spaces
-abbrev pub invariant-loop-start : goal.invariant-loop-start
-invariant-loop-start l = (l.start ≤ length l.bytes) × (prefix_len is_space l.bytes ≡ l.start + prefix_len is_space (drop l.start l.bytes))
+-- what was left out are spaces
+abbrev pub invariant-loop-rest : goal.invariant-loop-rest
+invariant-loop-rest l = trimmed_start l.rest ≡ trimmed_start l.bytes
 
-abbrev pub decreases-loop-start : goal.decreases-loop-start
-decreases-loop-start l = length l.bytes - l.start
+abbrev pub decreases-loop-rest : goal.decreases-loop-rest
+decreases-loop-rest l = length l.rest

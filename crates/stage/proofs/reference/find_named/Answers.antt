@@ -1,17 +1,19 @@
-use Rattle.std.proofs.Common.{sym, ◌∙◌, arith}
+use Rattle.std.proofs.Common.{sym, ◌∙◌, rules, tests, ap, arith}
+use Rattle.std.proofs.lemmas.Iterator.Search.{find_from_yields_List}
+use Rattle.card.specs.Lists.{highest}
 use Rattle.document.specs.Reads.{card_of}
+use Rattle.values.proofs.Asking.{shows_itself}
 use Rattle.stage.specs.Languages.{called}
-use Rattle.stage.proofs.Named.{found_last, passed_last, none_last, few_nodes}
+use Rattle.stage.proofs.Named.{few_nodes, find_down, YieldsList-from_down}
 use Rattle.stage.proofs.reference.find_named.Goals as goal
 
-pub overflow_cast-count : goal.overflow_cast-count
-overflow_cast-count c = omega (arith, few_nodes c.args.doc)
-
-pub returns-then-is_called : goal.returns-then-is_called
-returns-then-is_called c = sym (found_last (called (card_of c.args.doc) c.args.id.now) c.loop-k.k c.loop-k-test.true (sym c.if-is_called.ensures)) ∙ c.loop-k.invariant
-
-pub loop-k-preserved : goal.loop-k-preserved
-loop-k-preserved c = passed_last (called (card_of c.args.doc) c.args.id.now) c.loop-k.k c.loop-k-test.true (sym c.if-is_called.ensures) ∙ c.loop-k.invariant
+pub overflow_cast-len : goal.overflow_cast-len
+overflow_cast-len c = omega (arith, few_nodes c.args.doc)
 
 pub returns : goal.returns
-returns c = sym (none_last (called (card_of c.args.doc) c.args.id.now) c.loop-k.k c.loop-k-test.false) ∙ c.loop-k.invariant
+returns c =
+    let met = called (card_of c.args.doc) c.args.id.now in
+    sym (shows_itself c.find.result)
+    ∙ find_from_yields_List met _ _ c.find.result c.find.ensures.ran (YieldsList-from_down c.len.result c.rev.ensures.source) (λ x b q k. search (rules, tests))
+    ∙ find_down met c.len.result
+    ∙ ap (highest met) c.len.ensures

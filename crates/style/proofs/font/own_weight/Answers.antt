@@ -1,9 +1,10 @@
-use Rattle.std.proofs.Common.{◌∙◌}
+use Rattle.std.proofs.Common.{◌≡◌, ◌∙◌, rules}
+use Rattle.document.specs.Reads.{card_of}
+use Rattle.style.specs.Fonts.{weighed}
 use Rattle.style.proofs.Weighing.{own_weighed}
 use Rattle.style.proofs.font.own_weight.Goals as goal
 
-pub returns-in-None : goal.returns-in-None
-returns-in-None c = own_weighed _ c.args.k c.args.around _ c.in-None.ensures
-
-pub returns-in-Some : goal.returns-in-Some
-returns-in-Some c = c.reweigh.ensures ∙ own_weighed _ c.args.k c.args.around _ c.in-Some.ensures
+pub returns : goal.returns
+returns c =
+    let w : c.map_or.result ≡ weighed c.args.around c.attribute-own.result = search rules in
+    w ∙ own_weighed (card_of c.args.doc) c.args.k c.args.around c.attribute-own.result c.attribute-own.ensures
