@@ -8,10 +8,15 @@ use Rattle.card.specs.declared.record.TableCounts.{TableCounts}
 use Rattle.card.specs.Contents.{Item, root, element, text, Card, item, parent, above}
 use Rattle.card.specs.Tables.{Entries, entries, node, contents}
 use Rattle.document.specs.declared.document.Document.{Document}
+use Rattle.document.specs.declared.node.SvgNode.{SvgNode}
 
 -- what a document holds
 unfoldable pub card_of : Document → Card
 card_of d = contents (entries d.tables) d.counts
+
+-- the node of a number, in its document
+abbrev pub numbered : Document → ℕ → SvgNode
+numbered d k = record { doc = d; id = k }
 
 -- the node of a number, if it is one
 abbrev pub node_at : Entries → TableCounts → ℕ → Option NodeData

@@ -4,7 +4,7 @@ ghost use Rattle.std.specs.Option.{option_map};
 ghost use Rattle.card.specs.Contents.{item, bytes_of, is_text, has_tag};
 ghost use Rattle.card.specs.Tables.{entries, contents, run_in};
 ghost use Rattle.order.specs.Checks.{card_checked};
-ghost use Rattle.document.specs.Reads.{card_of, node_at, kind_at, tag_of, is_element, Leads};
+ghost use Rattle.document.specs.Reads.{card_of, numbered, node_at, kind_at, tag_of, is_element, Leads};
 
 use crate::document::Document;
 use card::{NodeData, NodeKind, Run, TableCounts, Tables};
@@ -44,8 +44,7 @@ impl<'a> Document<'a> {
 
     /// The node of a number.
     pub fn node(self, id: u32) -> SvgNode<'a>
-        ensures of_this_document { result.doc ≡ self.entry }
-        ensures of_this_number { result.id ≡ id }
+        ensures { result ≡ numbered self.entry id }
     {
         SvgNode { doc: self, id }
     }

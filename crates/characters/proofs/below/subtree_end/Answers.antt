@@ -1,4 +1,5 @@
-use Rattle.std.proofs.Common.{arith}
+use Rattle.std.proofs.Common.{ap, arith}
+use Rattle.card.specs.Contents.{parent}
 use Rattle.document.specs.Reads.{card_of}
 use Rattle.characters.proofs.Documents.{in_order_of, few_nodes}
 use Rattle.characters.proofs.Subtree.{lies_between}
@@ -12,6 +13,7 @@ overflow_step-k c = omega (arith, few_nodes c.args.node.doc)
 
 pub returns-then-parent_or_root-node : goal.returns-then-parent_or_root-node
 returns-then-parent_or_root-node c =
+    let same = ap (λ n. parent (card_of n.doc) n.id) c.node.ensures in
     lies_between (card_of c.args.node.doc) (in_order_of c.args.node.doc) c.args.node.id c.loop-k.k c.requires.later (record { after = omega arith; within = omega arith; inside = c.loop-k.invariant; outside = λ l. omega arith })
 
 pub returns : goal.returns

@@ -16,4 +16,4 @@ returns-in_err-id-clause-leads c =
 pub returns-clause-leads : goal.returns-clause-leads
 returns-clause-leads c =
     let on = leads_on c.args.self.doc c.args.self.id c.in_ok-data.field-0 c.in_ok-data.ensures in
-    subst (Leads (card_of c.args.self.doc) c.args.self.id) (c.in_ok-id.was ∙ ap Some (sym c.node.ensures.of_this_number)) on
+    subst (Leads (card_of c.args.self.doc) c.args.self.id) (c.in_ok-id.was ∙ ap (λ n. Some n.id) (sym c.node.ensures)) on
