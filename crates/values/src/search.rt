@@ -1,5 +1,5 @@
 //! One search for every kind of value: raw, own and nearest.
-ghost use Rattle.std.specs.Prelude.{◌≡◌, take};
+ghost use Rattle.std.specs.Prelude.{◌≡◌, take, IfSome};
 ghost use Rattle.std.specs.Option.{option_map};
 ghost use Rattle.card.specs.Contents.{above};
 ghost use Rattle.document.specs.Reads.{card_of};
@@ -9,7 +9,7 @@ ghost use Rattle.values.specs.Values.{has, is_absent, raw, own, closest, bearer,
 use crate::from_value::FromValue;
 use crate::upward::closest_among;
 use card::MAX_DEPTH;
-use document::Document;
+use document::SvgNode;
 use names::AId;
 
 // Whether a value says that there is none.
@@ -20,18 +20,18 @@ fn is_absent(name: AId, value: &[u8]) -> bool
 }
 
 /// A raw value: what the first attribute of the name gives.
-pub fn try_attribute<'a, T: FromValue<'a>>(doc: Document<'a>, k: u32, name: AId) -> Option<T>
-    ensures { option_map T.FromValue.shows result ≡ raw T.FromValue.reads (card_of doc.entry) k name }
+pub fn try_attribute<'a, T: FromValue<'a>>(node: SvgNode<'a>, name: AId) -> Option<T>
+    ensures { option_map T.FromValue.shows result ≡ raw T.FromValue.reads (card_of node.entry.doc) node.entry.id name }
 {
-    let raw = doc.value(k, name)?;
+    let raw = node.value(name)?;
     T::from_value(raw)
 }
 
 /// An own value: as the raw one, but for some names `none` says that there is none.
-pub fn attribute<'a, T: FromValue<'a>>(doc: Document<'a>, k: u32, name: AId) -> Option<T>
-    ensures { option_map T.FromValue.shows result ≡ own T.FromValue.reads (card_of doc.entry) k name }
+pub fn attribute<'a, T: FromValue<'a>>(node: SvgNode<'a>, name: AId) -> Option<T>
+    ensures { option_map T.FromValue.shows result ≡ own T.FromValue.reads (card_of node.entry.doc) node.entry.id name }
 {
-    let value = doc.value(k, name)?;
+    let value = node.value(name)?;
     if is_absent(name, value.bytes) {
         return None;
     }
@@ -39,33 +39,36 @@ pub fn attribute<'a, T: FromValue<'a>>(doc: Document<'a>, k: u32, name: AId) -> 
 }
 
 // The closest of the first `most` elements, from a node upward, that has the name.
-fn find_among(doc: Document<'_>, k: u32, name: AId, most: usize) -> Option<u32>
-    ensures { result ≡ first_passing (has name (card_of doc.entry)) (take most (above (card_of doc.entry) k)) }
+fn find_among<'a>(node: SvgNode<'a>, name: AId, most: usize) -> Option<SvgNode<'a>>
+    ensures closest { option_map (λ n. n.id) result ≡ first_passing (has name (card_of node.entry.doc)) (take most (above (card_of node.entry.doc) node.entry.id)) }
+    ensures same_document { IfSome result (λ n. n.doc ≡ node.entry.doc) }
 {
-    closest_among(doc, k, most, |at| doc.has_attribute(at, name))
+    closest_among(node, most, |at| at.has_attribute(name))
 }
 
 /// The closest element, from a node upward, that has the name, whatever its value.
-pub fn closest_with(doc: Document<'_>, element: u32, name: AId) -> Option<u32>
-    ensures { result ≡ closest (card_of doc.entry) element name }
+pub fn closest_with<'a>(element: SvgNode<'a>, name: AId) -> Option<SvgNode<'a>>
+    ensures closest { option_map (λ n. n.id) result ≡ closest (card_of element.entry.doc) element.entry.id name }
+    ensures same_document { IfSome result (λ n. n.doc ≡ element.entry.doc) }
 {
-    find_among(doc, element, name, MAX_DEPTH)
+    find_among(element, name, MAX_DEPTH)
 }
 
 // The element whose value counts for a node: of a name that is not inherited, the element itself or its parent.
-fn find_attribute_impl(doc: Document<'_>, k: u32, name: AId) -> Option<u32>
-    ensures { result ≡ bearer (card_of doc.entry) k name }
+fn find_attribute_impl<'a>(node: SvgNode<'a>, name: AId) -> Option<SvgNode<'a>>
+    ensures bearer { option_map (λ n. n.id) result ≡ bearer (card_of node.entry.doc) node.entry.id name }
+    ensures same_document { IfSome result (λ n. n.doc ≡ node.entry.doc) }
 {
     if name.is_inheritable() {
-        return find_among(doc, k, name, MAX_DEPTH);
+        return find_among(node, name, MAX_DEPTH);
     }
-    find_among(doc, k, name, 2)
+    find_among(node, name, 2)
 }
 
 /// A nearest value: the own one of the closest element that has the name; one that does not read ends the search.
-pub fn find_attribute<'a, T: FromValue<'a>>(doc: Document<'a>, k: u32, name: AId) -> Option<T>
-    ensures { option_map T.FromValue.shows result ≡ nearest T.FromValue.reads (card_of doc.entry) k name }
+pub fn find_attribute<'a, T: FromValue<'a>>(node: SvgNode<'a>, name: AId) -> Option<T>
+    ensures { option_map T.FromValue.shows result ≡ nearest T.FromValue.reads (card_of node.entry.doc) node.entry.id name }
 {
-    let element = find_attribute_impl(doc, k, name)?;
-    attribute::<T>(doc, element, name)
+    let element = find_attribute_impl(node, name)?;
+    attribute::<T>(element, name)
 }

@@ -1,56 +1,63 @@
 //! The two ways along the elements that a node lies in: upward to the closest that passes a test, and down from the root.
-ghost use Rattle.std.specs.Prelude.{◌≡◌, ℕ, Bool, take};
+ghost use Rattle.std.specs.Prelude.{◌≡◌, ℕ, Bool, take, IfSome};
+ghost use Rattle.std.specs.Option.{option_map};
 ghost use Rattle.card.specs.Contents.{above};
 ghost use Rattle.document.specs.Reads.{card_of};
 ghost use Rattle.document.specs.Said.{first_passing};
 ghost use Rattle.values.specs.Upward.{IsTest, IsStep, stepped};
 
 use card::MAX_DEPTH;
-use document::Document;
+use document::SvgNode;
 
 /// The closest of the first `most` elements, from a node upward, that passes a test.
-pub fn closest_among<F: Fn(u32) -> bool>(
-    doc: Document<'_>,
-    k: u32,
+pub fn closest_among<'a, F: Fn(SvgNode<'a>) -> bool>(
+    node: SvgNode<'a>,
     most: usize,
     passes: F,
-) -> Option<u32>
+) -> Option<SvgNode<'a>>
     requires { F.IsAlwaysCallable passes }
-    ensures { (met : ℕ → Bool) → IsTest (F.post passes) met → result ≡ first_passing met (take most (above (card_of doc.entry) k)) }
+    ensures closest { (met : ℕ → Bool) → IsTest node.entry.doc (F.post passes) met → option_map (λ n. n.id) result ≡ first_passing met (take most (above (card_of node.entry.doc) node.entry.id)) }
+    ensures same_document { IfSome result (λ n. n.doc ≡ node.entry.doc) }
 {
-    let mut at = k;
+    let mut at = node;
     let mut left = most;
     while left > 0 {
-        if doc.is_element(at) {
+        if at.is_element() {
             if passes(at) {
                 return Some(at);
             }
             left -= 1;
         }
-        at = doc.parent(at)?;
+        at = at.parent()?;
     }
     None
 }
 
 /// The closest element, from a node upward, that passes a test.
-pub fn closest_that<F: Fn(u32) -> bool>(doc: Document<'_>, k: u32, passes: F) -> Option<u32>
+pub fn closest_that<'a, F: Fn(SvgNode<'a>) -> bool>(
+    node: SvgNode<'a>,
+    passes: F,
+) -> Option<SvgNode<'a>>
     requires { F.IsAlwaysCallable passes }
-    ensures { (met : ℕ → Bool) → IsTest (F.post passes) met → result ≡ first_passing met (above (card_of doc.entry) k) }
+    ensures closest { (met : ℕ → Bool) → IsTest node.entry.doc (F.post passes) met → option_map (λ n. n.id) result ≡ first_passing met (above (card_of node.entry.doc) node.entry.id) }
+    ensures same_document { IfSome result (λ n. n.doc ≡ node.entry.doc) }
 {
-    closest_among(doc, k, MAX_DEPTH, passes)
+    closest_among(node, MAX_DEPTH, passes)
 }
 
 /// What a value becomes on the way down to a node: it starts at the root, and each element changes it.
-pub fn step_down<T, F: Fn(u32, T) -> T>(doc: Document<'_>, k: u32, start: T, step: &F) -> T
+///
+/// The step is given the element's number: the bound of a function that calls itself may not name a lifetime yet.
+pub fn step_down<T, F: Fn(u32, T) -> T>(node: SvgNode<'_>, start: T, step: &F) -> T
     requires { F.IsAlwaysCallable step.now }
-    ensures { (made : ℕ → T → T) → IsStep (F.post step.now) made → result ≡ stepped made start (above (card_of doc.entry) k) }
+    ensures { (made : ℕ → T → T) → IsStep (F.post step.now) made → result ≡ stepped made start (above (card_of node.entry.doc) node.entry.id) }
 {
-    let Some(parent) = doc.parent(k) else {
+    let Some(parent) = node.parent() else {
         return start;
     };
-    let around = step_down(doc, parent, start, step);
-    if doc.is_element(k) {
-        step(k, around)
+    let around = step_down(parent, start, step);
+    if node.is_element() {
+        step(node.id, around)
     } else {
         around
     }

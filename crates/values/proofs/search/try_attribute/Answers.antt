@@ -5,7 +5,7 @@ use Rattle.values.proofs.Asking.{raw_none, raw_some}
 use Rattle.values.proofs.search.try_attribute.Goals as goal
 
 pub returns-in_err-raw : goal.returns-in_err-raw
-returns-in_err-raw g c = ap (option_map g.T.FromValue.shows) c.from_residual.ensures ∙ raw_none g.T.FromValue.reads _ c.args.k c.args.name c.in_err-raw.ensures
+returns-in_err-raw g c = ap (option_map g.T.FromValue.shows) c.from_residual.ensures ∙ raw_none g.T.FromValue.reads _ c.args.node.id c.args.name c.in_err-raw.ensures
 
 pub returns : goal.returns
-returns g c = c.from_value.ensures ∙ raw_some g.T.FromValue.reads _ c.args.k c.args.name (said c.in_ok-raw.raw) c.in_ok-raw.ensures
+returns g c = c.from_value.ensures ∙ raw_some g.T.FromValue.reads _ c.args.node.id c.args.name (said c.in_ok-raw.raw) c.in_ok-raw.ensures
