@@ -9,7 +9,7 @@ use crate::length::{convert_length, percent_base};
 use crate::settings::Settings;
 use crate::size::resolve_font_size;
 use card::Length;
-use document::Document;
+use document::SvgNode;
 use names::AId;
 use values::{LengthList, attribute, closest_with};
 
@@ -47,44 +47,37 @@ impl ConvertedList<'_> {
 
 /// An element's own list of lengths.
 pub fn convert_list<'a>(
-    doc: Document<'a>,
-    k: u32,
+    node: SvgNode<'a>,
     name: AId,
     settings: &Settings,
 ) -> Option<ConvertedList<'a>>
-    ensures { option_map list_shown result ≡ list_of settings.now (card_of doc.entry) k name }
+    ensures { option_map list_shown result ≡ list_of settings.now (card_of node.entry.doc) node.entry.id name }
 {
-    let LengthList(lengths) = attribute::<LengthList>(doc, k, name)?;
+    let LengthList(lengths) = attribute::<LengthList>(node, name)?;
     Some(ConvertedList {
         lengths,
         settings: *settings,
-        size: resolve_font_size(doc, k, settings),
+        size: resolve_font_size(node, settings),
         base: percent_base(name, settings),
     })
 }
 
 // An element's own length.
-fn own_length(doc: Document<'_>, k: u32, name: AId, settings: &Settings) -> Option<f32>
-    ensures { result ≡ length_at settings.now (card_of doc.entry) k name }
+fn own_length(node: SvgNode<'_>, name: AId, settings: &Settings) -> Option<f32>
+    ensures { result ≡ length_at settings.now (card_of node.entry.doc) node.entry.id name }
 {
-    let length = attribute::<Length>(doc, k, name)?;
-    let size = resolve_font_size(doc, k, settings);
+    let length = attribute::<Length>(node, name)?;
+    let size = resolve_font_size(node, settings);
     let base = percent_base(name, settings);
     Some(convert_length(length, settings, size, base))
 }
 
 /// The length of the closest element with the name, whatever its value, if that is one length; else the default.
-pub fn resolve_length(
-    doc: Document<'_>,
-    k: u32,
-    name: AId,
-    settings: &Settings,
-    default: f32,
-) -> f32
-    ensures { result ≡ resolved settings.now (card_of doc.entry) k name default }
+pub fn resolve_length(node: SvgNode<'_>, name: AId, settings: &Settings, default: f32) -> f32
+    ensures { result ≡ resolved settings.now (card_of node.entry.doc) node.entry.id name default }
 {
-    let Some(element) = closest_with(doc, k, name) else {
+    let Some(element) = closest_with(node, name) else {
         return default;
     };
-    own_length(doc, element, name, settings).unwrap_or(default)
+    own_length(element, name, settings).unwrap_or(default)
 }

@@ -6,7 +6,7 @@ ghost use Rattle.units.specs.Sizes.{scale, is_absolute, size_by_length, size_by_
 use crate::length::absolute_length;
 use crate::settings::Settings;
 use card::Length;
-use document::Document;
+use document::SvgNode;
 use names::AId;
 use values::{NamedSize, step_down, try_attribute};
 
@@ -45,25 +45,25 @@ fn convert_font_length(length: Length, settings: &Settings, around: f32) -> f32
 }
 
 // What an element's own font-size makes of the size around it.
-fn own_font_size(doc: Document<'_>, k: u32, settings: &Settings, around: f32) -> f32
-    ensures { result ≡ own_size settings.now (card_of doc.entry) k around }
+fn own_font_size(node: SvgNode<'_>, settings: &Settings, around: f32) -> f32
+    ensures { result ≡ own_size settings.now (card_of node.entry.doc) node.entry.id around }
 {
-    if let Some(length) = try_attribute::<Length>(doc, k, AId::FontSize) {
+    if let Some(length) = try_attribute::<Length>(node, AId::FontSize) {
         return convert_font_length(length, settings, around);
     }
-    if let Some(word) = try_attribute::<NamedSize>(doc, k, AId::FontSize) {
+    if let Some(word) = try_attribute::<NamedSize>(node, AId::FontSize) {
         return convert_named_font_size(word, settings, around);
     }
-    if doc.has_attribute(k, AId::FontSize) {
+    if node.has_attribute(AId::FontSize) {
         return around * 1.0;
     }
     around
 }
 
 /// The size of an element's font: from the setting, then from the outermost element down to it.
-pub fn resolve_font_size(doc: Document<'_>, k: u32, settings: &Settings) -> f32
-    ensures { result ≡ size settings.now (card_of doc.entry) k }
+pub fn resolve_font_size(node: SvgNode<'_>, settings: &Settings) -> f32
+    ensures { result ≡ size settings.now (card_of node.entry.doc) node.entry.id }
 {
-    let step = |element, around| own_font_size(doc, element, settings, around);
-    step_down(doc, k, settings.size, &step)
+    let step = |id, around| own_font_size(node.doc.node(id), settings, around);
+    step_down(node, settings.size, &step)
 }

@@ -9,6 +9,6 @@ use Rattle.units.proofs.list.own_length.Goals as goal
 pub returns : goal.returns
 returns c =
     let s = c.args.settings.now in
-    let card = card_of c.args.doc in
-    ap Some (c.convert_length.ensures.answer ∙ (λ i. length_of s (c.resolve_font_size-size.ensures i) (c.percent_base-base.ensures i) c.in_ok-length.length) ∙ measured_is s card c.args.k c.args.name c.in_ok-length.length)
-    ∙ ap (option_map (measured s card c.args.k c.args.name)) c.in_ok-length.ensures
+    let card = card_of c.args.node.doc in
+    ap Some (c.convert_length.ensures.answer ∙ (λ i. length_of s (c.resolve_font_size-size.ensures i) (c.percent_base-base.ensures i) c.in_ok-length.length) ∙ measured_is s card c.args.node.id c.args.name c.in_ok-length.length)
+    ∙ ap (option_map (measured s card c.args.node.id c.args.name)) c.in_ok-length.ensures

@@ -1,4 +1,4 @@
-use Rattle.std.proofs.Common.{◌≡◌, Bool, true, false, cond, not, Some, None, Option, sym, refl, ap, ◌∙◌, rules, tests}
+use Rattle.std.proofs.Common.{◌≡◌, Bool, true, false, cond, not, Some, None, refl, ap, ◌∙◌, rules, tests}
 use lib.Ieee.{Float}
 use Rattle.std.specs.List.{find}
 use Rattle.std.specs.Option.{option_map}

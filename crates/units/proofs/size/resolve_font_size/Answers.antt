@@ -5,4 +5,4 @@ use Rattle.units.proofs.Sizing.{size_down}
 use Rattle.units.proofs.size.resolve_font_size.Goals as goal
 
 pub returns : goal.returns
-returns c = c.step_down.ensures (own_size c.args.settings.now (card_of c.args.doc)) (λ k x r h. search rules) ∙ size_down c.args.settings.now (card_of c.args.doc) c.args.k
+returns c = c.step_down.ensures (own_size c.args.settings.now (card_of c.args.node.doc)) (λ k x r h. search rules) ∙ size_down c.args.settings.now (card_of c.args.node.doc) c.args.node.id
