@@ -6,7 +6,7 @@ ghost use Rattle.stage.specs.Languages.{speaks, language_stage};
 use crate::asked::Stage;
 use crate::entry::any_matches;
 use crate::reference::path_of;
-use document::Document;
+use document::{Document, SvgNode};
 use names::AId;
 use values::{Text, attribute};
 
@@ -18,10 +18,10 @@ pub struct LanguageStage<'a> {
 }
 
 // Whether an element's own list of languages has the language; one without a list is for all.
-fn speaks_language(doc: Document<'_>, k: u32, language: &[u8]) -> bool
-    ensures { result ≡ speaks (card_of doc.entry) language.now k }
+fn speaks_language(node: SvgNode<'_>, language: &[u8]) -> bool
+    ensures { result ≡ speaks (card_of node.entry.doc) language.now node.entry.id }
 {
-    attribute::<Text>(doc, k, AId::SystemLanguage).is_none_or(|Text(list)| any_matches(
+    attribute::<Text>(node, AId::SystemLanguage).is_none_or(|Text(list)| any_matches(
         list, language,
     ))
 }
@@ -42,10 +42,11 @@ impl Stage for LanguageStage<'_> {
     ghost flow = { λ s. (language_stage (card_of s.doc) s.language.now).flow };
 
     fn is_drawn(&self, n: u32) -> bool {
-        self.doc.is_element(n) && speaks_language(self.doc, n, self.language)
+        let node = self.doc.node(n);
+        node.is_element() && speaks_language(node, self.language)
     }
 
     fn flow(&self, n: u32) -> Option<u32> {
-        path_of(self.doc, n)
+        path_of(self.doc.node(n))
     }
 }
