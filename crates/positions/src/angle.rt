@@ -9,7 +9,7 @@ ghost use Rattle.positions.specs.Angles.{at_or_last, turned, angles};
 use crate::layer::{Layer, lay_all};
 use card::Length;
 use characters::count_chars_below;
-use document::Document;
+use document::SvgNode;
 use values::{NumberList, rotate_list};
 
 // Lays the angles of elements over their characters.
@@ -27,8 +27,8 @@ fn at_or_last(list: &[Length], i: usize) -> Option<f32>
 impl Layer<f32> for AngleLayer {
     ghost change = { λ l card e j a. unwrap_or (turned card e j) a };
 
-    fn lay(&self, doc: Document<'_>, e: u32, part: &mut [f32]) {
-        if let Some(NumberList(list)) = rotate_list(doc, e) {
+    fn lay(&self, node: SvgNode<'_>, part: &mut [f32]) {
+        if let Some(NumberList(list)) = rotate_list(node) {
             for (i, angle) in part.iter_mut().enumerate() {
                 *angle = at_or_last(list, i).unwrap_or(*angle);
             }
@@ -37,12 +37,12 @@ impl Layer<f32> for AngleLayer {
 }
 
 /// Writes the angles of an element's characters into the front of a table; later entries stay.
-pub fn resolve_rotate_list(doc: Document<'_>, c: u32, table: &mut [f32])
-    requires element { is_element (card_of doc) c ≡ true }
-    requires room { length (characters (card_of doc) c) ≤ length table.old }
-    ensures { table.new ≡ filled table.old (angles (card_of doc.entry) c) }
+pub fn resolve_rotate_list(node: SvgNode<'_>, table: &mut [f32])
+    requires element { is_element (card_of node.doc) node.id ≡ true }
+    requires room { length (characters (card_of node.doc) node.id) ≤ length table.old }
+    ensures { table.new ≡ filled table.old (angles (card_of node.entry.doc) node.entry.id) }
 {
-    let count = count_chars_below(doc, c);
+    let count = count_chars_below(node);
     table[..count].fill(0.0);
-    lay_all(&AngleLayer, doc, c, table);
+    lay_all(&AngleLayer, node, table);
 }

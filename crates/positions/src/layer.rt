@@ -7,45 +7,45 @@ ghost use Rattle.positions.specs.Stacked.{Each, Changed};
 ghost use Rattle.positions.specs.Part.{PartChanged};
 
 use characters::{count_chars_below, count_chars_in, subtree_end};
-use document::Document;
+use document::SvgNode;
 
 /// What an element lays over the entries of its characters.
 pub(crate) trait Layer<T> {
     // What an element makes of the entry of its i-th character.
     ghost change: { Self → Card → ℕ → ℕ → T → T };
 
-    fn lay(&self, doc: Document<'_>, e: u32, part: &mut [T])
-        ensures { Each (change self.now (card_of doc.entry) e) part.old part.new };
+    fn lay(&self, node: SvgNode<'_>, part: &mut [T])
+        ensures { Each (change self.now (card_of node.entry.doc) node.entry.id) part.old part.new };
 }
 
 // Lays an element's lists over the entries of its characters, which begin at `offset`.
 fn lay_at<T, L: Layer<T>>(
     layer: &L,
-    doc: Document<'_>,
-    e: u32,
+    node: SvgNode<'_>,
     offset: usize,
     count: usize,
     table: &mut [T],
 )
     requires { offset + count ≤ length table.old }
-    ensures { PartChanged (L.Layer.change layer.now (card_of doc.entry) e) offset count table.old table.new }
+    ensures { PartChanged (L.Layer.change layer.now (card_of node.entry.doc) node.entry.id) offset count table.old table.new }
 {
-    layer.lay(doc, e, &mut table[offset..offset + count]);
+    layer.lay(node, &mut table[offset..offset + count]);
 }
 
 /// Lays the lists of an element and of all below it over the entries of its characters, the later over the earlier.
-pub(crate) fn lay_all<T, L: Layer<T>>(layer: &L, doc: Document<'_>, c: u32, table: &mut [T])
-    requires element { is_element (card_of doc) c ≡ true }
-    requires room { length (characters (card_of doc) c) ≤ length table.old }
-    ensures { Changed (L.Layer.change layer.now (card_of doc.entry)) (card_of doc.entry) c table.old table.new }
+pub(crate) fn lay_all<T, L: Layer<T>>(layer: &L, node: SvgNode<'_>, table: &mut [T])
+    requires element { is_element (card_of node.doc) node.id ≡ true }
+    requires room { length (characters (card_of node.doc) node.id) ≤ length table.old }
+    ensures { Changed (L.Layer.change layer.now (card_of node.entry.doc)) (card_of node.entry.doc) node.entry.id table.old table.new }
 {
-    let end = subtree_end(doc, c);
+    let end = subtree_end(node);
     let mut offset = 0;
-    for e in c..end {
-        if doc.is_element(e) {
-            let count = count_chars_below(doc, e);
-            lay_at(layer, doc, e, offset, count, table);
+    for e in node.id..end {
+        let inner = node.doc.node(e);
+        if inner.is_element() {
+            let count = count_chars_below(inner);
+            lay_at(layer, inner, offset, count, table);
         }
-        offset += count_chars_in(doc, e);
+        offset += count_chars_in(inner);
     }
 }

@@ -9,7 +9,7 @@ ghost use Rattle.positions.specs.Positions.{has_lists, listed, put, replaced, po
 use crate::layer::{Layer, lay_all};
 use crate::position::{Axis, Position};
 use characters::count_chars_below;
-use document::Document;
+use document::SvgNode;
 use names::EId;
 use units::{Settings, convert_list};
 
@@ -20,17 +20,17 @@ struct PositionLayer {
 }
 
 // Whether an element's lists place its characters: a `textPath` has none of its own.
-fn has_lists(doc: Document<'_>, e: u32) -> bool
-    ensures { result ≡ has_lists (card_of doc.entry) e }
+fn has_lists(node: SvgNode<'_>) -> bool
+    ensures { result ≡ has_lists (card_of node.entry.doc) node.entry.id }
 {
-    matches!(doc.tag(e), Some(EId::Text | EId::Tspan))
+    matches!(node.tag(), Some(EId::Text | EId::Tspan))
 }
 
 // Lays an element's list of one coordinate over its characters, as far as it reaches.
-fn lay_list(doc: Document<'_>, e: u32, axis: Axis, settings: &Settings, part: &mut [Position])
-    ensures { Each (λ j p. put axis p (listed settings.now (card_of doc.entry) axis e j)) part.old part.new }
+fn lay_list(node: SvgNode<'_>, axis: Axis, settings: &Settings, part: &mut [Position])
+    ensures { Each (λ j p. put axis p (listed settings.now (card_of node.entry.doc) axis node.entry.id j)) part.old part.new }
 {
-    if let Some(list) = convert_list(doc, e, axis.name(), settings) {
+    if let Some(list) = convert_list(node, axis.name(), settings) {
         for (i, position) in part.iter_mut().enumerate() {
             *position = position.put(axis, list.get(i));
         }
@@ -40,31 +40,26 @@ fn lay_list(doc: Document<'_>, e: u32, axis: Axis, settings: &Settings, part: &m
 impl Layer<Position> for PositionLayer {
     ghost change = { λ l card e j p. replaced l.settings card e j p };
 
-    fn lay(&self, doc: Document<'_>, e: u32, part: &mut [Position]) {
-        if has_lists(doc, e) {
-            lay_list(doc, e, Axis::X, &self.settings, part);
-            lay_list(doc, e, Axis::Y, &self.settings, part);
-            lay_list(doc, e, Axis::Dx, &self.settings, part);
-            lay_list(doc, e, Axis::Dy, &self.settings, part);
+    fn lay(&self, node: SvgNode<'_>, part: &mut [Position]) {
+        if has_lists(node) {
+            lay_list(node, Axis::X, &self.settings, part);
+            lay_list(node, Axis::Y, &self.settings, part);
+            lay_list(node, Axis::Dx, &self.settings, part);
+            lay_list(node, Axis::Dy, &self.settings, part);
         }
     }
 }
 
 /// Writes the positions of an element's characters into the front of a table; later entries stay.
-pub fn resolve_positions_list(
-    doc: Document<'_>,
-    c: u32,
-    settings: &Settings,
-    table: &mut [Position],
-)
-    requires element { is_element (card_of doc) c ≡ true }
-    requires room { length (characters (card_of doc) c) ≤ length table.old }
-    ensures { table.new ≡ filled table.old (positions settings.now (card_of doc.entry) c) }
+pub fn resolve_positions_list(node: SvgNode<'_>, settings: &Settings, table: &mut [Position])
+    requires element { is_element (card_of node.doc) node.id ≡ true }
+    requires room { length (characters (card_of node.doc) node.id) ≤ length table.old }
+    ensures { table.new ≡ filled table.old (positions settings.now (card_of node.entry.doc) node.entry.id) }
 {
-    let count = count_chars_below(doc, c);
+    let count = count_chars_below(node);
     table[..count].fill(Position::default());
     let layer = PositionLayer {
         settings: *settings,
     };
-    lay_all(&layer, doc, c, table);
+    lay_all(&layer, node, table);
 }

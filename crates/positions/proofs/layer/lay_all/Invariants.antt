@@ -9,6 +9,6 @@ use Rattle.positions.proofs.layer.lay_all.Given as goal
 -- the elements so far have laid their lists, and the characters counted are those before the next
 abbrev pub invariant-loop-e : goal.invariant-loop-e
 invariant-loop-e g l =
-    (outer : is_element (card_of l.doc) l.c ≡ true) (lies : LiesBetween (card_of l.doc) l.c l.end)
-    → SoFar (g.L.Layer.change l.layer (card_of l.doc)) (card_of l.doc) (in_order_of l.doc) l.c l.end outer lies l.e l.initial.table l.table
-    × (l.offset ≡ chars_before (characters (card_of l.doc) l.c) l.e)
+    (outer : is_element (card_of l.node.doc) l.node.id ≡ true) (lies : LiesBetween (card_of l.node.doc) l.node.id l.end)
+    → SoFar (g.L.Layer.change l.layer (card_of l.node.doc)) (card_of l.node.doc) (in_order_of l.node.doc) l.node.id l.end outer lies l.e l.initial.table l.table
+    × (l.offset ≡ chars_before (characters (card_of l.node.doc) l.node.id) l.e)

@@ -10,7 +10,7 @@ returns-then-has_lists c =
     let third = c.lay_list-then-has_lists-2 in
     let fourth = c.lay_list-then-has_lists-3 in
     each_alike _ _ c.args.part.now fourth.new.part
-    (λ j p. replaced_all c.args.self.now.settings (card_of c.args.doc) c.args.e j p c.if-has_lists.ensures)
+    (λ j p. replaced_all c.args.self.now.settings (card_of c.args.node.doc) c.args.node.id j p c.if-has_lists.ensures)
     (each_then _ _ c.args.part.now third.new.part fourth.new.part
     (each_then _ _ c.args.part.now second.new.part third.new.part
     (each_then _ _ c.args.part.now first.new.part second.new.part first.ensures second.ensures) third.ensures) fourth.ensures)
