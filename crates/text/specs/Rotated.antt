@@ -1,5 +1,5 @@
 -- What rotations answers, and what the table of angles then holds.
-use Rattle.std.specs.Prelude.{ℕ, Bool, cond, List, length, Ok, Err, Result, nat_lt, Float}
+use Rattle.std.specs.Prelude.{ℕ, cond, List, length, Ok, Err, Result, nat_lt, Float}
 use Rattle.names.specs.declared.EId.TheVariants as tag
 use Rattle.card.specs.declared.fault.Fault.{Fault}
 use Rattle.card.specs.declared.fault.Fault.TheVariants as fault

@@ -24,12 +24,12 @@ pub fn rotations(
 {
     let counts = card.counts();
     check_card(tables, counts)?;
-    let doc = Document::new(tables, counts);
-    check_text_element(doc, element)?;
-    let count = count_chars_below(doc, element);
+    let node = Document::new(tables, counts).node(element);
+    check_text_element(node)?;
+    let count = count_chars_below(node);
     if angles.len() < count {
         return Err(Fault::AnglesShort(count));
     }
-    resolve_rotate_list(doc, element, angles);
+    resolve_rotate_list(node, angles);
     Ok(count)
 }

@@ -4,15 +4,16 @@ ghost use Rattle.document.specs.Reads.{card_of};
 ghost use Rattle.text.specs.Rotated.{text_checked};
 
 use card::Fault;
-use document::Document;
+use document::SvgNode;
 use names::EId;
 
 /// Refuses a number that is no `text` element.
-pub(crate) fn check_text_element(doc: Document<'_>, k: u32) -> Result<(), Fault>
-    ensures { result ≡ text_checked (card_of doc.entry) k }
+pub(crate) fn check_text_element(node: SvgNode<'_>) -> Result<(), Fault>
+    ensures { result ≡ text_checked (card_of node.entry.doc) node.entry.id }
 {
-    match doc.tag(k) {
-        Some(EId::Text) => Ok(()),
-        _ => Err(Fault::NotTextElement(k)),
+    if node.has_tag(EId::Text) {
+        Ok(())
+    } else {
+        Err(Fault::NotTextElement(node.id))
     }
 }

@@ -41,15 +41,15 @@ returns-in_err-check_text_element c =
       answer_and_angles =
           ap (with_angles before) (p.1 ∙ ap {B = Result ℕ Fault} (λ f. Err f) p.2)
           ∙ rotated_no_text e c.counts-counts.result c.args.element before c.in_err-check_text_element.field-0.0 c.in_ok-check_card.ensures.the_first_check_that_fails
-          (c.in_err-check_text_element.ensures ∙ ap (λ card. text_checked card c.args.element) c.new-doc.ensures)
+          (c.in_err-check_text_element.ensures ∙ ap (λ n. text_checked (card_of n.doc) n.id) c.node-node.ensures ∙ ap (λ card. text_checked card c.args.element) c.new.ensures)
           ∙ ap (λ n. rotated e n c.args.element before) c.counts-counts.ensures;
       a_refusal_changes_nothing = kept before out.result;
     }
 
 pub count_chars_below-count-requires : goal.count_chars_below-count-requires
 count_chars_below-count-requires c =
-    let w = element_within (card_of c.new-doc.result) (in_order_of c.new-doc.result) c.args.element (text_element (card_of c.new-doc.result) c.args.element c.in_ok-check_text_element.ensures) in
-    record { later = w.0; node = w.1 }
+    let w = element_within (card_of c.node-node.result.doc) (in_order_of c.node-node.result.doc) c.node-node.result.id (text_element (card_of c.node-node.result.doc) c.node-node.result.id c.in_ok-check_text_element.ensures) in
+    record { later = w.0; present = w.1 }
 
 pub returns-then-angles-count : goal.returns-then-angles-count
 returns-then-angles-count c =
@@ -59,8 +59,8 @@ returns-then-angles-count c =
       answer_and_angles =
           rotated_short e c.counts-counts.result c.args.element before c.count_chars_below-count.result
           c.in_ok-check_card.ensures.the_first_check_that_fails
-          (c.in_ok-check_text_element.ensures ∙ ap (λ card. text_checked card c.args.element) c.new-doc.ensures)
-          (c.count_chars_below-count.ensures ∙ ap (λ card. length (characters card c.args.element)) c.new-doc.ensures)
+          (c.in_ok-check_text_element.ensures ∙ ap (λ n. text_checked (card_of n.doc) n.id) c.node-node.ensures ∙ ap (λ card. text_checked card c.args.element) c.new.ensures)
+          (c.count_chars_below-count.ensures ∙ ap (λ n. length (characters (card_of n.doc) n.id)) c.node-node.ensures ∙ ap (λ card. length (characters card c.args.element)) c.new.ensures)
           c.if-angles-count.true
           ∙ ap (λ n. rotated e n c.args.element before) c.counts-counts.ensures;
       a_refusal_changes_nothing = refl;
@@ -74,10 +74,10 @@ returns c =
       answer_and_angles =
           rotated_done e c.counts-counts.result c.args.element before c.count_chars_below-count.result c.resolve_rotate_list.new.table
           c.in_ok-check_card.ensures.the_first_check_that_fails
-          (c.in_ok-check_text_element.ensures ∙ ap (λ card. text_checked card c.args.element) c.new-doc.ensures)
-          (c.count_chars_below-count.ensures ∙ ap (λ card. length (characters card c.args.element)) c.new-doc.ensures)
+          (c.in_ok-check_text_element.ensures ∙ ap (λ n. text_checked (card_of n.doc) n.id) c.node-node.ensures ∙ ap (λ card. text_checked card c.args.element) c.new.ensures)
+          (c.count_chars_below-count.ensures ∙ ap (λ n. length (characters (card_of n.doc) n.id)) c.node-node.ensures ∙ ap (λ card. length (characters card c.args.element)) c.new.ensures)
           c.if-angles-count.false
-          (c.resolve_rotate_list.ensures ∙ ap (λ card. filled before (angles card c.args.element)) c.new-doc.ensures)
+          (c.resolve_rotate_list.ensures ∙ ap (λ n. filled before (angles (card_of n.doc) n.id)) c.node-node.ensures ∙ ap (λ card. filled before (angles card c.args.element)) c.new.ensures)
           ∙ ap (λ n. rotated e n c.args.element before) c.counts-counts.ensures;
       a_refusal_changes_nothing = tt;
     }
