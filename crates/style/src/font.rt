@@ -5,22 +5,22 @@ ghost use Rattle.style.specs.Fonts.{font_style, font_stretch, reweighed, own_wei
 
 use crate::keyword::{FontOpticalSizing, FontStretch, Weighing};
 use crate::words::is_nearest;
-use document::Document;
+use document::SvgNode;
 use names::AId;
 use values::{FontStyle, Visibility, attribute, find_attribute, step_down};
 
 /// Whether the font is upright or slanted.
-pub fn font_style(doc: Document<'_>, k: u32) -> FontStyle
-    ensures { result ≡ font_style (card_of doc.entry) k }
+pub fn font_style(node: SvgNode<'_>) -> FontStyle
+    ensures { result ≡ font_style (card_of node.entry.doc) node.entry.id }
 {
-    find_attribute::<FontStyle>(doc, k, AId::FontStyle).unwrap_or(FontStyle::Normal)
+    find_attribute::<FontStyle>(node, AId::FontStyle).unwrap_or(FontStyle::Normal)
 }
 
 /// How wide the font is.
-pub fn font_stretch(doc: Document<'_>, k: u32) -> FontStretch
-    ensures { result ≡ font_stretch (card_of doc.entry) k }
+pub fn font_stretch(node: SvgNode<'_>) -> FontStretch
+    ensures { result ≡ font_stretch (card_of node.entry.doc) node.entry.id }
 {
-    find_attribute::<FontStretch>(doc, k, AId::FontStretch).unwrap_or(FontStretch::Normal)
+    find_attribute::<FontStretch>(node, AId::FontStretch).unwrap_or(FontStretch::Normal)
 }
 
 // What a `font-weight` makes of the weight around it.
@@ -39,33 +39,33 @@ fn reweigh(weighing: Weighing, around: u16) -> u16
 }
 
 // What an element's own `font-weight` makes of the weight around it.
-fn own_weight(doc: Document<'_>, k: u32, around: u16) -> u16
-    ensures { result ≡ own_weight (card_of doc.entry) k around }
+fn own_weight(node: SvgNode<'_>, around: u16) -> u16
+    ensures { result ≡ own_weight (card_of node.entry.doc) node.entry.id around }
 {
-    let own = attribute::<Weighing>(doc, k, AId::FontWeight);
+    let own = attribute::<Weighing>(node, AId::FontWeight);
     own.map_or(around, |weighing| reweigh(weighing, around))
 }
 
 /// How bold the font is: from 400, then from the outermost element down.
-pub fn resolve_font_weight(doc: Document<'_>, k: u32) -> u16
-    ensures { result ≡ weight (card_of doc.entry) k }
+pub fn resolve_font_weight(node: SvgNode<'_>) -> u16
+    ensures { result ≡ weight (card_of node.entry.doc) node.entry.id }
 {
-    let step = |element, around| own_weight(doc, element, around);
-    step_down(doc, k, 400, &step)
+    let step = |id, around| own_weight(node.doc.node(id), around);
+    step_down(node, 400, &step)
 }
 
 /// Whether small letters are shown as small capitals.
-pub fn is_small_caps(doc: Document<'_>, k: u32) -> bool
-    ensures { result ≡ small_caps (card_of doc.entry) k }
+pub fn is_small_caps(node: SvgNode<'_>) -> bool
+    ensures { result ≡ small_caps (card_of node.entry.doc) node.entry.id }
 {
-    is_nearest(doc, k, AId::FontVariant, b"small-caps")
+    is_nearest(node, AId::FontVariant, b"small-caps")
 }
 
 /// Whether the font is fitted to the size at which it is shown.
-pub fn font_optical_sizing(doc: Document<'_>, k: u32) -> FontOpticalSizing
-    ensures { result ≡ optical_sizing (card_of doc.entry) k }
+pub fn font_optical_sizing(node: SvgNode<'_>) -> FontOpticalSizing
+    ensures { result ≡ optical_sizing (card_of node.entry.doc) node.entry.id }
 {
-    if is_nearest(doc, k, AId::FontOpticalSizing, b"none") {
+    if is_nearest(node, AId::FontOpticalSizing, b"none") {
         FontOpticalSizing::None
     } else {
         FontOpticalSizing::Auto
@@ -73,9 +73,9 @@ pub fn font_optical_sizing(doc: Document<'_>, k: u32) -> FontOpticalSizing
 }
 
 /// Whether what stands in the element is to be seen.
-pub fn is_visible(doc: Document<'_>, k: u32) -> bool
-    ensures { result ≡ visible (card_of doc.entry) k }
+pub fn is_visible(node: SvgNode<'_>) -> bool
+    ensures { result ≡ visible (card_of node.entry.doc) node.entry.id }
 {
-    find_attribute::<Visibility>(doc, k, AId::Visibility).unwrap_or(Visibility::Visible)
+    find_attribute::<Visibility>(node, AId::Visibility).unwrap_or(Visibility::Visible)
         == Visibility::Visible
 }

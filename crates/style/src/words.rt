@@ -9,7 +9,7 @@ ghost use Rattle.style.specs.declared.keyword.Weighing.{Weighing};
 ghost use Rattle.style.specs.Fonts.{stretch_words, weight_words};
 
 use crate::keyword::{FontStretch, Weighing};
-use document::Document;
+use document::SvgNode;
 use names::AId;
 use values::{Keyword, Text, find_attribute};
 
@@ -56,8 +56,8 @@ impl Keyword for Weighing {
 }
 
 // Whether the nearest value of a name is this word.
-pub(crate) fn is_nearest(doc: Document<'_>, k: u32, name: AId, word: &[u8]) -> bool
-    ensures { result ≡ says (nearest as_text (card_of doc.entry) k name) word.now }
+pub(crate) fn is_nearest(node: SvgNode<'_>, name: AId, word: &[u8]) -> bool
+    ensures { result ≡ says (nearest as_text (card_of node.entry.doc) node.entry.id name) word.now }
 {
-    find_attribute::<Text>(doc, k, name).is_some_and(|Text(value)| value == word)
+    find_attribute::<Text>(node, name).is_some_and(|Text(value)| value == word)
 }

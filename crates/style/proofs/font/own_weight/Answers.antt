@@ -7,4 +7,4 @@ use Rattle.style.proofs.font.own_weight.Goals as goal
 pub returns : goal.returns
 returns c =
     let w : c.map_or.result ≡ weighed c.args.around c.attribute-own.result = search rules in
-    w ∙ own_weighed (card_of c.args.doc) c.args.k c.args.around c.attribute-own.result c.attribute-own.ensures
+    w ∙ own_weighed (card_of c.args.node.doc) c.args.node.id c.args.around c.attribute-own.result c.attribute-own.ensures

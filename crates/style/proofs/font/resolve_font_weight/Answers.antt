@@ -5,4 +5,4 @@ use Rattle.style.proofs.Weighing.{weight_down}
 use Rattle.style.proofs.font.resolve_font_weight.Goals as goal
 
 pub returns : goal.returns
-returns c = c.step_down.ensures (own_weight (card_of c.args.doc)) (λ k x r h. search rules) ∙ weight_down (card_of c.args.doc) c.args.k
+returns c = c.step_down.ensures (own_weight (card_of c.args.node.doc)) (λ k x r h. search rules) ∙ weight_down (card_of c.args.node.doc) c.args.node.id
