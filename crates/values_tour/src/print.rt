@@ -1,7 +1,7 @@
 //! Prints the sizes of a card's elements, and the lengths of its innermost one.
 use crate::card_of_line::NAMES;
 use card::{TableCounts, Tables};
-use document::Document;
+use document::{Document, SvgNode};
 use names::{AId, Spelled};
 use order::check_card;
 use units::{Settings, convert_list, resolve_font_size};
@@ -15,7 +15,7 @@ fn print_sizes(
 ) -> anyhow::Result<()> {
     print!(rt; "sizes")?;
     for k in 2..=innermost {
-        let size = resolve_font_size(doc, k, settings);
+        let size = resolve_font_size(doc.node(k), settings);
         print!(rt; " {size}")?;
     }
     println!(rt; "")?;
@@ -25,18 +25,15 @@ fn print_sizes(
 // Prints an element's list under a name.
 fn print_list(
     rt: &HostRuntime,
-    doc: Document<'_>,
-    k: u32,
+    node: SvgNode<'_>,
     name: AId,
     settings: &Settings,
 ) -> anyhow::Result<()> {
     let spelling = name.to_str();
     print!(rt; "{spelling}")?;
-    if let Some(list) = convert_list(doc, k, name, settings) {
-        for i in 0..list.len() {
-            if let Some(length) = list.get(i) {
-                print!(rt; " {length}")?;
-            }
+    if let Some(list) = convert_list(node, name, settings) {
+        for length in (0..list.len()).filter_map(|i| list.get(i)) {
+            print!(rt; " {length}")?;
         }
     }
     println!(rt; "")?;
@@ -58,7 +55,7 @@ pub(crate) fn print_card(
     let innermost = (counts.nodes - 1) as u32;
     print_sizes(rt, doc, innermost, settings)?;
     for name in NAMES {
-        print_list(rt, doc, innermost, name, settings)?;
+        print_list(rt, doc.node(innermost), name, settings)?;
     }
     Ok(())
 }
