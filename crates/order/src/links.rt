@@ -6,8 +6,8 @@ ghost use Rattle.order.specs.Links.{lasts, nexts, last_noted, next_noted, Expect
 use crate::whole::WholeTables;
 use card::MAX_NODES;
 
-/// What the passes over a card note of each node.
-#[derive(Clone, Copy)]
+/// What the passes over a card note of each node; nothing at first.
+#[derive(Clone, Copy, Default)]
 pub(crate) struct Note {
     /// Its last child, as far as the parents so far tell.
     pub(crate) last: Option<u32>,
@@ -16,13 +16,6 @@ pub(crate) struct Note {
     /// How many elements lie from it upward.
     pub(crate) depth: u8,
 }
-
-// Of a node of which nothing is known yet.
-const BLANK: Note = Note {
-    last: None,
-    next: None,
-    depth: 0,
-};
 
 // Node `j` is one more child of its parent, if that is one of the nodes: the next sibling of the child that came before
 // it, and the last one now.
@@ -51,7 +44,7 @@ impl WholeTables<'_> {
         ensures links { Expected (entries self.entry.tables) self.entry.counts.nodes self.entry.counts.nodes (lasts result) (nexts result) }
     {
         let count = self.counts.nodes;
-        let mut notes = [BLANK; MAX_NODES];
+        let mut notes = [Note::default(); MAX_NODES];
         for (j, node) in self.tables.nodes[..count].iter().enumerate() {
             note_child(&mut notes, count, node.parent, j as u32);
         }

@@ -47,7 +47,7 @@ impl Sealed {
         ensures a_refusal_changes_nothing { OnErr result (list.new ≡ list.old) }
     {
         check_card(tables, self.counts)?;
-        list_texts(tables.nodes, self.counts.nodes, list)
+        list_texts(&tables.nodes[..self.counts.nodes], list)
     }
 
     /// How much of each table the card uses.

@@ -3,7 +3,7 @@ use Rattle.std.proofs.Common.{◌≡◌, ℕ, zero, suc, ◌+◌, ◌<◌, ◌�
 use Rattle.std.specs.List.{range_with_len}
 use Rattle.std.specs.List.Sorted.{IsPermutation}
 use Rattle.std.proofs.lemmas.List.FromFn.{filter_of_map_range_with_len_more}
-use Rattle.std.proofs.lemmas.List.{append-nil, append_assoc, length_push, map-id, set_at, drop_more, drop_at, take_at}
+use Rattle.std.proofs.lemmas.List.{append-nil, append_assoc, length_push, map-id, set_at, drop_more, drop_at, take_at, take_all, get_or-take, length-take-le}
 use Rattle.std.proofs.lemmas.List.Sums.{count_by_more_yes, count_by_more_no}
 use Rattle.std.proofs.lemmas.List.Sorted.{IsPermutation-refl}
 use Rattle.std.proofs.lemmas.Bool.{cases_Bool, cases_lt, cond-true, cond-false}
@@ -68,6 +68,10 @@ module _ (ns : List NodeData) where
           (λ f. count_by_more_no is_text_element ns k blank (omega arith) f ∙ ih ∙ ap length (sym (texts_skip k f)))
           (cases_Bool (is_text_element (get_or ns k blank)))
 
+  -- so it is of all nodes
+  pub as_many_all : count_by is_text_element ns ≡ length (text_elements ns (length ns))
+  as_many_all = ap (count_by is_text_element) (sym (take_all (length ns) ns (omega arith))) ∙ as_many (length ns) (omega arith)
+
 -- one more entry is written behind those that are
 pub written_more : (ts xs : List ℕ) (n k : ℕ) → n ≡ length ts → n < length xs → set (ts ++ drop n xs) n k ≡ (ts ++ k ∷ []) ++ drop (n + 1) xs
 written_more ts xs n k e h =
@@ -92,12 +96,19 @@ kind_texts e p kind.Root = refl
 kind_texts e p (kind.Element t run) = refl
 kind_texts e p (kind.Text run) = refl
 
--- the nodes that are text elements are the card's
-pub texts_of_card : (ns : List NodeData) (count : ℕ) → count ≤ length ns → (e : Entries) (c : TableCounts) → e.nodes ≡ ns → c.nodes ≡ count → text_elements ns count ≡ card_texts (contents e c)
+-- of the nodes that a card uses as many numbers are text elements as of its table
+texts_used : (ns : List NodeData) (n : ℕ) → n ≤ length ns → text_elements (take n ns) (length (take n ns)) ≡ text_elements ns n
 unfolding text_elements
-texts_of_card ns count h e c q r =
-    let l : c.nodes ≤ length e.nodes = omega (arith, ap length q) in
-    ap (λ xs. text_elements xs count) (sym q)
-    ∙ ap (text_elements e.nodes) (sym r ∙ sym (length_contents e c l))
+texts_used ns n h =
+    ap (text_elements (take n ns)) (length-take-le n ns h)
+    ∙ kept_same (λ k. is_text_element (get_or (take n ns) k blank)) (λ k. is_text_element (get_or ns k blank)) 0 n (λ j a b. ap is_text_element (get_or-take n ns j blank (omega arith)))
+
+-- the nodes that are text elements are the card's
+pub texts_of_card : (ns : List NodeData) (e : Entries) (c : TableCounts) → c.nodes ≤ length e.nodes → take c.nodes e.nodes ≡ ns → text_elements ns (length ns) ≡ card_texts (contents e c)
+unfolding text_elements
+texts_of_card ns e c l q =
+    ap (λ xs. text_elements xs (length xs)) (sym q)
+    ∙ texts_used e.nodes c.nodes l
+    ∙ ap (text_elements e.nodes) (sym (length_contents e c l))
     ∙ kept_same (λ k. is_text_element (node e k)) (has_tag tag.Text (contents e c)) 0 (length (contents e c))
     (λ j a b. let n = length_contents e c l in kind_texts e _ (node e j).kind ∙ sym (ap (tagged tag.Text) (item_at e c j l (omega arith))))

@@ -22,8 +22,6 @@ pub judge-requires : goal.judge-requires
 judge-requires c =
     let used = used_long (entries c.args.self.tables) c.args.self.counts c.args.self.whole in
     record {
-      sound = c.loop-k.invariant.sound;
-      present = omega arith;
       links = c.loop-k.invariant.links;
       depths = c.loop-k.invariant.depths;
       ended = c.loop-k.invariant.ended;
