@@ -38,7 +38,7 @@ pub(crate) struct Room {
     lengths: [Length; LENGTHS],
 }
 
-// A word as a length, where it is one.
+// A word as a length, where it is one. No library reads lengths, so each program has a reader of its own.
 fn length_of(word: &str) -> Option<Length> {
     // The longest unit first, since every word ends in the empty one.
     [2usize, 1, 0]
