@@ -22,6 +22,7 @@ pub fn subtree_end(node: SvgNode<'_>) -> u32
     ensures { LiesBetween (card_of node.entry.doc) node.entry.id result }
 {
     let nodes = node.doc.len() as u32;
+    // Numbers of nodes, in a row: `find` with a default would say the same in more.
     for k in node.id + 1..nodes {
         if parent_or_root(node.doc.node(k)) < node.id {
             return k;

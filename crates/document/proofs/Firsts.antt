@@ -9,8 +9,7 @@ use Rattle.document.specs.Said.{first_passing}
 -- it is what `find` finds
 pub first_is_find : {X : Type 0} (p : X → Bool) (xs : List X) → find p xs ≡ first_passing p xs
 unfolding first_passing
-first_is_find p [] = refl
-first_is_find p (x ∷ xs) = ap (λ o. cond (p x) (Some x) o) (first_is_find p xs)
+first_is_find p xs = refl
 
 pub first_none : {X : Type 0} (p : X → Bool) → first_passing p [] ≡ None
 unfolding first_passing

@@ -1,5 +1,5 @@
 -- What the first attribute of a name says, with no places and no references in it.
-use Rattle.std.specs.Prelude.{ℕ, Bool, cond, List, [], ◌∷◌, Some, None, Option}
+use Rattle.std.specs.Prelude.{ℕ, Bool, List, Option, find}
 use Rattle.names.specs.declared.AId.{AId}
 use Rattle.names.specs.AIds as names
 use Rattle.card.specs.declared.record.Attribute.{Attribute}
@@ -21,8 +21,7 @@ said_by a = record { bytes = a.value; reading = a.reading }
 
 -- the first that passes
 unfoldable pub first_passing : {X : Type 0} → (X → Bool) → List X → Option X
-first_passing p [] = None
-first_passing p (x ∷ xs) = let rest = first_passing p xs in cond (p x) (Some x) rest
+first_passing p xs = find p xs
 
 -- an attribute in the tables has the name
 abbrev pub entry_named : AId → Attribute → Bool

@@ -32,6 +32,7 @@ fn lay_at<T, L: Layer<T>>(
     layer.lay(node, &mut table[offset..offset + count]);
 }
 
+// That it is an element whose characters have room is asked of three functions: a type would be made for each call.
 /// Lays the lists of an element and of all below it over the entries of its characters, the later over the earlier.
 pub(crate) fn lay_all<T, L: Layer<T>>(layer: &L, node: SvgNode<'_>, table: &mut [T])
     requires element { is_element (card_of node.doc) node.id ≡ true }
@@ -40,6 +41,7 @@ pub(crate) fn lay_all<T, L: Layer<T>>(layer: &L, node: SvgNode<'_>, table: &mut 
 {
     let end = subtree_end(node);
     let mut offset = 0;
+    // The numbers from an element to the end of what lies below it; the offset runs along with them.
     for e in node.id..end {
         let inner = node.doc.node(e);
         if inner.is_element() {

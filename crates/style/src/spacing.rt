@@ -14,6 +14,7 @@ use values::{LengthAdjust, attribute};
 pub fn applies_kerning(node: SvgNode<'_>, settings: &Settings) -> bool
     ensures { result ≡ kerning settings.now (card_of node.entry.doc) node.entry.id }
 {
+    // `!= 0.0 && ..` is no plainer, and its proof was tried and did not close.
     if resolve_length(node, AId::Kerning, settings, -1.0) == 0.0 {
         return false;
     }

@@ -37,6 +37,7 @@ impl Draft {
         Ok(Draft { counts, open: 1 })
     }
 
+    // The tables come one by one: a struct of four would lend a call more to write than it may.
     /// Opens an element inside the open one, and answers its number.
     pub fn open<'t>(
         &mut self,
@@ -170,6 +171,7 @@ impl Draft {
         Ok(parent)
     }
 
+    // A pair hands the draft back with the fault: a struct of the two is no plainer for two calls.
     /// Seals the draft if node 1 is the open element; a refusal hands the draft back.
     pub fn seal(self, tables: Tables<'_>) -> Result<Sealed, (Draft, Fault)>
         ensures answer { result ≡ sealed self (entries tables.entry) }

@@ -21,6 +21,7 @@ pub fn closest_among<'a, F: Fn(SvgNode<'a>) -> bool>(
 {
     let mut at = node;
     let mut left = most;
+    // Elements are counted, and texts on the way are not, so no iterator's `take` serves.
     while left > 0 {
         if at.is_element() {
             if passes(at) {
