@@ -1,10 +1,9 @@
 //! The links that nodes ought to have, found in one pass from their parents alone.
-ghost use Rattle.std.specs.Prelude.{◌≡◌, ℕ, ◌<◌, ◌≤◌, length, Some as just, None as nothing, slice_index_or};
+ghost use Rattle.std.specs.Prelude.{◌≡◌, ℕ, ◌<◌, ◌≤◌, length, Some as just, None as nothing, replicate, slice_index_or};
 ghost use Rattle.card.specs.Tables.{entries};
 ghost use Rattle.order.specs.Links.{lasts, nexts, last_noted, next_noted, Expected};
 
 use crate::whole::WholeTables;
-use card::MAX_NODES;
 
 /// What the passes over a card note of each node; nothing at first.
 #[derive(Clone, Copy, Default)]
@@ -38,16 +37,16 @@ fn note_child(notes: &mut [Note], count: usize, parent: Option<u32>, j: u32)
 }
 
 impl WholeTables<'_> {
-    // The links that every node ought to have.
-    pub(crate) fn find_links(self) -> [Note; MAX_NODES]
-        ensures long { length result ≡ 4096 }
-        ensures links { Expected (entries self.entry.tables) self.entry.counts.nodes self.entry.counts.nodes (lasts result) (nexts result) }
+    // Notes the links that every node ought to have, where nothing is noted yet.
+    pub(crate) fn find_links(self, notes: &mut [Note])
+        requires no_last { lasts notes.old ≡ replicate 4096 nothing }
+        requires no_next { nexts notes.old ≡ replicate 4096 nothing }
+        ensures long { length notes.new ≡ 4096 }
+        ensures links { Expected (entries self.entry.tables) self.entry.counts.nodes self.entry.counts.nodes (lasts notes.new) (nexts notes.new) }
     {
         let count = self.counts.nodes;
-        let mut notes = [Note::default(); MAX_NODES];
         for (j, node) in self.tables.nodes[..count].iter().enumerate() {
-            note_child(&mut notes, count, node.parent, j as u32);
+            note_child(notes, count, node.parent, j as u32);
         }
-        notes
     }
 }

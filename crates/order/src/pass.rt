@@ -7,7 +7,7 @@ ghost use Rattle.order.specs.Links.{lasts, nexts, Expected};
 use crate::links::Note;
 use crate::node::NextNode;
 use crate::whole::WholeTables;
-use card::NodeKind;
+use card::{MAX_NODES, NodeKind};
 
 // Where the attributes of the nodes so far end, with this one.
 fn end_after(kind: NodeKind, before: u32) -> u32
@@ -61,7 +61,8 @@ impl WholeTables<'_> {
     pub fn find_out_of_order(self) -> Option<u32>
         ensures the_lowest_node_out_of_order { result ≡ lowest_out_of_order (entries self.entry.tables) self.entry.counts }
     {
-        let mut notes = self.find_links();
+        let mut notes = [Note::default(); MAX_NODES];
+        self.find_links(&mut notes);
         self.pass_nodes(&mut notes)
     }
 }

@@ -1,22 +1,18 @@
-use Rattle.std.proofs.Common.{◌≡◌, ◌<◌, None, sym, refl, ap, ◌∙◌, subst, arith, rules}
-use Rattle.std.proofs.lemmas.List.{length-map}
+use Rattle.std.proofs.Common.{◌≡◌, ℕ, ◌<◌, None, Option, length, sym, ap, ◌∙◌, subst, arith}
+use Rattle.std.proofs.lemmas.List.{length-map, length-replicate}
 use Rattle.card.specs.Tables.{entries}
 use Rattle.card.specs.TableOrder.{child}
 use Rattle.card.proofs.Numbers.{highest_some}
 use Rattle.order.specs.Links.{lasts, nexts, Expected}
-use Rattle.order.proofs.Notes.{all_blank}
 use Rattle.order.proofs.Parents.{none_yet, after_node}
 use Rattle.order.proofs.Used.{used_long, used_node}
 use Rattle.order.proofs.whole.WholeTables.find_links.Goals as goal
 
 pub loop-j-init : goal.loop-j-init
 loop-j-init c =
-    let note = c.default-notes.result in
-    let last : note.last ≡ None = search rules in
-    let next : note.next ≡ None = search rules in
     record {
-      long = refl;
-      links = rw (all_blank (λ n. n.last) 4096 note, all_blank (λ n. n.next) 4096 note, last, next) (none_yet (entries c.args.self.tables) c.args.self.counts.nodes 4096 c.args.self.whole.nodes_few);
+      long = sym (length-map c.args.notes.now (λ n. n.last)) ∙ ap length c.requires.no_last ∙ length-replicate {A = Option ℕ} 4096 None;
+      links = rw (c.requires.no_last, c.requires.no_next) (none_yet (entries c.args.self.tables) c.args.self.counts.nodes 4096 c.args.self.whole.nodes_few);
     }
 
 pub note_child-requires : goal.note_child-requires
