@@ -43,25 +43,29 @@ impl Card {
     }
 
     // Where the draft is refused it stays.
-    fn seal(self, tables: Tables<'_>) -> (Card, Result<Answer, NoAnswer>) {
-        match self {
+    fn seal(&mut self, tables: Tables<'_>) -> Result<Answer, NoAnswer> {
+        let (card, answer) = match take(self) {
             Card::Drafting(draft) => match draft.seal(tables) {
                 Ok(sealed) => (Card::Ready(sealed), Ok(Answer::Sealed)),
                 Err((draft, fault)) => (Card::Drafting(draft), Err(fault.into())),
             },
             other => (other, Err(NoAnswer::NotNow)),
-        }
+        };
+        *self = card;
+        answer
     }
 
     // Where the sealed card is refused it stays.
-    fn reopen(self, tables: Tables<'_>) -> (Card, Result<Answer, NoAnswer>) {
-        match self {
+    fn reopen(&mut self, tables: Tables<'_>) -> Result<Answer, NoAnswer> {
+        let (card, answer) = match take(self) {
             Card::Ready(sealed) => match sealed.reopen(tables) {
                 Ok(draft) => (Card::Drafting(draft), Ok(Answer::Reopened)),
                 Err((sealed, fault)) => (Card::Ready(sealed), Err(fault.into())),
             },
             other => (other, Err(NoAnswer::NotNow)),
-        }
+        };
+        *self = card;
+        answer
     }
 }
 
@@ -90,8 +94,8 @@ impl Session {
             }
             Line::Write(text) => self.write(text.as_slice()),
             Line::Close => self.close(),
-            Line::Seal => self.seal(),
-            Line::Reopen => self.reopen(),
+            Line::Seal => self.card.seal(self.lent.tables()),
+            Line::Reopen => self.card.reopen(self.lent.tables()),
             Line::Admit(counts) => self.admit(counts),
             Line::Poke(poke) => self.lent.poke(poke),
             Line::Texts(room) => self.texts(room),
@@ -154,18 +158,6 @@ impl Session {
     fn close(&mut self) -> Result<Answer, NoAnswer> {
         let node = self.card.draft()?.close(self.lent.tables())?;
         Ok(Answer::Closed(node))
-    }
-
-    fn seal(&mut self) -> Result<Answer, NoAnswer> {
-        let (card, answer) = take(&mut self.card).seal(self.lent.tables());
-        self.card = card;
-        answer
-    }
-
-    fn reopen(&mut self) -> Result<Answer, NoAnswer> {
-        let (card, answer) = take(&mut self.card).reopen(self.lent.tables());
-        self.card = card;
-        answer
     }
 
     fn texts(&self, room: usize) -> Result<Answer, NoAnswer> {
