@@ -51,8 +51,11 @@ def listed(names, width=120):
     return "\n".join("    " + l for l in lines + [line + "[]"])
 
 
-def enum(name, doc, names):
-    return f"/// {doc}\n#[derive(Clone, Copy, PartialEq, Eq)]\npub enum {name} {{\n" + "".join(f"    {n},\n" for n in names) + "}\n"
+def enum(name, doc, names, default=None):
+    """An enum; `default` is the variant that stands for nothing said, where there is one."""
+    derives = "Clone, Copy, PartialEq, Eq" + (", Default" if default else "")
+    return (f"/// {doc}\n#[derive({derives})]\npub enum {name} {{\n"
+            + "".join(("    #[default]\n" if n == default else "") + f"    {n},\n" for n in names) + "}\n")
 
 
 def clauses(function, comment, kind, result, cases):
@@ -126,7 +129,7 @@ def main():
           + "pub use rows::find;\npub use spelled::Spelled;\n\n"
           + enum("EId", "The tag of an element.", eids) + "\n"
           + enum("AId", "The name of an attribute.", aids) + "\n"
-          + enum("LengthUnit", "The unit of a length.", UNITS))
+          + enum("LengthUnit", "The unit of a length.", UNITS, "None"))
 
     spelled("src/tags.rt", "The tags of elements: how they are written.", "EId", "tag", "tags", "EIds", eids, eid_spelt)
     spelled("src/attributes.rt", "The names of attributes: how they are written.", "AId", "name", "names", "AIds", aids, aid_spelt)

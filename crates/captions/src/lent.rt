@@ -5,7 +5,7 @@ use card::{
     Attribute, Length, MAX_ATTRIBUTES, MAX_BYTES, MAX_LENGTHS, MAX_NODES, Marks, NodeData, Run,
     TableCounts, Tables,
 };
-use names::{AId, LengthUnit};
+use names::AId;
 use std::alloc::{AllocError, Global};
 
 /// A table that is lent. Entries past the table's limit are never used, so only their number is kept.
@@ -60,15 +60,11 @@ impl Lent {
             lengths: Run::default(),
             marks: Marks::default(),
         };
-        let length = Length {
-            number: 0.0,
-            unit: LengthUnit::None,
-        };
         Ok(Lent {
             nodes: LentTable::new(heap, NodeData::default(), sizes.nodes, MAX_NODES)?,
             attributes: LentTable::new(heap, attribute, sizes.attributes, MAX_ATTRIBUTES)?,
             bytes: LentTable::new(heap, 0, sizes.bytes, MAX_BYTES)?,
-            lengths: LentTable::new(heap, length, sizes.lengths, MAX_LENGTHS)?,
+            lengths: LentTable::new(heap, Length::default(), sizes.lengths, MAX_LENGTHS)?,
         })
     }
 

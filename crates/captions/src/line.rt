@@ -58,11 +58,6 @@ fn marks(words: &mut Words<'_>) -> Option<Marks> {
     Some(Marks { single, plain })
 }
 
-fn length(words: &mut Words<'_>) -> Option<Length> {
-    let (number, unit) = words.length()?;
-    Some(Length { number, unit })
-}
-
 fn tag(words: &mut Words<'_>) -> Option<EId> {
     EId::from_str(words.word()?)
 }
@@ -116,7 +111,7 @@ fn read_poke(words: &mut Words<'_>) -> Option<Poke> {
         "node" => Some(Poke::Node(k, node(words)?)),
         "attribute" => Some(Poke::Attribute(k, attribute(words)?)),
         "byte" => Some(Poke::Byte(k, u8::try_from(words.number()?).ok()?)),
-        "length" => Some(Poke::Length(k, length(words)?)),
+        "length" => Some(Poke::Length(k, words.length()?)),
         _ => None,
     }
 }
@@ -129,7 +124,7 @@ fn lengths(words: &mut Words<'_>, heap: Global, most: usize) -> Result<Vec<Lengt
         if words.ended() {
             break;
         }
-        read.push(length(words).ok_or(NoAnswer::Unreadable)?)?;
+        read.push(words.length().ok_or(NoAnswer::Unreadable)?)?;
     }
     Ok(read)
 }

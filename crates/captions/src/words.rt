@@ -2,6 +2,7 @@
 ghost use Rattle.std.specs.Prelude.{◌<◌, IfSome, length};
 
 use crate::answer::NoAnswer;
+use card::Length;
 use names::{LengthUnit, Spelled};
 use std::alloc::Global;
 use std::str::from_utf8;
@@ -45,7 +46,7 @@ impl<'a> Words<'a> {
     }
 
     /// The next word as a length: a float directly followed by its unit.
-    pub(crate) fn length(&mut self) -> Option<(f32, LengthUnit)> {
+    pub(crate) fn length(&mut self) -> Option<Length> {
         let word = self.word()?;
         // The longest unit first, since every word ends in the empty one.
         [2usize, 1, 0]
@@ -90,11 +91,14 @@ fn number_of(word: &str) -> Option<u32> {
     word.parse().ok()
 }
 
-// A length by a word that ends in a unit of this width.
-fn length_of(word: &str, width: usize) -> Option<(f32, LengthUnit)> {
+// A length by a word that ends in a unit of this width. No library reads lengths, so each program has a reader of its own.
+fn length_of(word: &str, width: usize) -> Option<Length> {
     let split = word.len().checked_sub(width)?;
     let (number, unit) = word.split_at_checked(split)?;
-    Some((number.parse().ok()?, LengthUnit::from_str(unit)?))
+    Some(Length {
+        number: number.parse().ok()?,
+        unit: LengthUnit::from_str(unit)?,
+    })
 }
 
 // The byte that a text within quotes means first, and what stands behind it. A quote alone means none.

@@ -1,5 +1,6 @@
 //! The records of a card's tables, and the tables as they are lent.
-ghost use Rattle.std.specs.Prelude.{◌≡◌};
+ghost use Rattle.std.specs.Prelude.{◌≡◌, ◌≤◌, length};
+ghost use Rattle.card.specs.Tables.{run_in};
 ghost use Rattle.card.specs.TableOrder.{is_root_kind, is_element, is_tagged};
 
 use names::{AId, EId, LengthUnit};
@@ -22,8 +23,18 @@ pub struct Run {
     pub end: u32,
 }
 
+impl Run {
+    /// The entries of the run.
+    pub fn entries<'a, T>(self, table: &'a [T]) -> &'a [T]
+        requires { (self.start ≤ self.end) × (self.end ≤ length table.now) }
+        ensures { result.now ≡ run_in self table.now }
+    {
+        &table[self.start as usize..self.end as usize]
+    }
+}
+
 /// A length: a number and its unit.
-#[derive(Clone, Copy)]
+#[derive(Clone, Copy, Default)]
 pub struct Length {
     pub number: f32,
     pub unit: LengthUnit,

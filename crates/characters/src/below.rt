@@ -22,13 +22,9 @@ pub fn subtree_end(node: SvgNode<'_>) -> u32
     ensures { LiesBetween (card_of node.entry.doc) node.entry.id result }
 {
     let nodes = node.doc.len() as u32;
-    // Numbers of nodes, in a row: `find` with a default would say the same in more.
-    for k in node.id + 1..nodes {
-        if parent_or_root(node.doc.node(k)) < node.id {
-            return k;
-        }
-    }
-    nodes
+    (node.id + 1..nodes)
+        .find(|k| parent_or_root(node.doc.node(*k)) < node.id)
+        .unwrap_or(nodes)
 }
 
 /// How many characters a number has as a text: none, if it is no text.

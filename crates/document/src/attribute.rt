@@ -8,7 +8,7 @@ ghost use Rattle.card.specs.TableOrder.{attribute_in_order};
 ghost use Rattle.document.specs.Reads.{card_of};
 ghost use Rattle.document.specs.Said.{said, said_by, first_passing, entry_named, attribute as first_attribute};
 
-use crate::node::{SvgNode, part};
+use crate::node::SvgNode;
 use card::{Attribute, NodeKind, Value};
 use names::AId;
 
@@ -29,7 +29,7 @@ impl<'a> SvgNode<'a> {
         ensures in_order { all (attribute_in_order (entries self.entry.doc.tables) self.entry.doc.counts) result.now ≡ true }
     {
         match self.kind() {
-            NodeKind::Element { attributes, .. } => part(self.doc.tables.attributes, attributes),
+            NodeKind::Element { attributes, .. } => attributes.entries(self.doc.tables.attributes),
             _ => &[],
         }
     }
@@ -40,8 +40,8 @@ impl<'a> SvgNode<'a> {
         ensures { said result ≡ said_by (attr_of (entries self.entry.doc.tables) attribute) }
     {
         Value {
-            bytes: part(self.doc.tables.bytes, attribute.value),
-            lengths: part(self.doc.tables.lengths, attribute.lengths),
+            bytes: attribute.value.entries(self.doc.tables.bytes),
+            lengths: attribute.lengths.entries(self.doc.tables.lengths),
             marks: attribute.marks,
         }
     }

@@ -1,13 +1,13 @@
 //! The nodes of a document: what each is, and where the way up goes on.
-ghost use Rattle.std.specs.Prelude.{◌≡◌, ◌≤◌, true, length, is_ok, IfSome};
+ghost use Rattle.std.specs.Prelude.{◌≡◌, true, length, is_ok, IfSome};
 ghost use Rattle.std.specs.Option.{option_map};
 ghost use Rattle.card.specs.Contents.{item, bytes_of, is_text, has_tag};
-ghost use Rattle.card.specs.Tables.{entries, contents, run_in};
+ghost use Rattle.card.specs.Tables.{entries, contents};
 ghost use Rattle.order.specs.Checks.{card_checked};
 ghost use Rattle.document.specs.Reads.{card_of, numbered, node_at, kind_at, tag_of, is_element, Leads};
 
 use crate::document::Document;
-use card::{NodeData, NodeKind, Run, TableCounts, Tables};
+use card::{NodeData, NodeKind, TableCounts, Tables};
 use names::EId;
 
 /// A node of a document, by its number. A number that is no node is as the root.
@@ -15,14 +15,6 @@ use names::EId;
 pub struct SvgNode<'a> {
     pub doc: Document<'a>,
     pub id: u32,
-}
-
-// The entries of a run.
-pub(crate) fn part<'a, T>(table: &'a [T], run: Run) -> &'a [T]
-    requires { (run.start ≤ run.end) × (run.end ≤ length table.now) }
-    ensures { result.now ≡ run_in run table.now }
-{
-    &table[run.start as usize..run.end as usize]
 }
 
 impl<'a> Document<'a> {
@@ -104,7 +96,7 @@ impl<'a> SvgNode<'a> {
         ensures { result.now ≡ bytes_of (item (card_of self.entry.doc) self.entry.id) }
     {
         match self.kind() {
-            NodeKind::Text(run) => part(self.doc.tables.bytes, run),
+            NodeKind::Text(run) => run.entries(self.doc.tables.bytes),
             _ => &[],
         }
     }

@@ -29,13 +29,10 @@ impl WholeTables<'_> {
         if !is_in_use(value, self.counts.bytes) || !is_in_use(lengths, self.counts.lengths) {
             return false;
         }
-        if !is_utf8(&self.tables.bytes[value.start as usize..value.end as usize]) {
+        if !is_utf8(value.entries(self.tables.bytes)) {
             return false;
         }
-        keeps_rules(
-            &self.tables.lengths[lengths.start as usize..lengths.end as usize],
-            marks,
-        )
+        keeps_rules(lengths.entries(self.tables.lengths), marks)
     }
 
     // Whether each attribute of a run is in order.
@@ -43,7 +40,7 @@ impl WholeTables<'_> {
         requires { in_use self.counts.attributes run ≡ true }
         ensures { result ≡ all (attribute_in_order (entries self.entry.tables) self.entry.counts) (run_in run (entries self.entry.tables).attributes) }
     {
-        self.tables.attributes[run.start as usize..run.end as usize]
+        run.entries(self.tables.attributes)
             .iter()
             .all(|attribute| self.is_attribute_in_order(attribute))
     }

@@ -6,6 +6,7 @@ ghost use Rattle.order.specs.Checks.{table_checked, tables_checked, card_checked
 use crate::whole::WholeTables;
 use card::{Fault, MAX_ATTRIBUTES, MAX_BYTES, MAX_LENGTHS, MAX_NODES, Table, TableCounts, Tables};
 
+// The checks take tables and counts apart, as a caller has them: once they pass, `WholeTables` hold both.
 // Refuses a table that is shorter than its count, or whose count is above its limit.
 fn check_table(table: Table, entries: usize, count: usize, limit: usize) -> Result<(), Fault>
     ensures answer { result ≡ table_checked table entries count limit }

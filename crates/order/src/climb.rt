@@ -9,7 +9,7 @@ use crate::whole::WholeTables;
 
 impl WholeTables<'_> {
     // Whether an element is a node or lies above it, where the nodes so far are in order.
-    // Parents have lower numbers, so the way up ends as soon as it is past the number.
+    // Parents have lower numbers, so the way up ends as soon as it is past the number. It follows links, no index.
     pub(crate) fn lies_above(self, from: u32, sought: u32) -> bool
         requires sound { SoundBelow (entries self.tables) self.counts (from + 1) }
         ensures { result ≡ member sought (above (contents (entries self.entry.tables) self.entry.counts) from) }

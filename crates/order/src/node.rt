@@ -85,7 +85,7 @@ impl NextNode<'_> {
             }
             NodeKind::Text(run) => {
                 is_in_use(run, self.card.counts.bytes)
-                    && is_utf8(&self.card.tables.bytes[run.start as usize..run.end as usize])
+                    && is_utf8(run.entries(self.card.tables.bytes))
             }
         }
     }

@@ -42,6 +42,7 @@ impl Layer<Position> for PositionLayer {
 
     fn lay(&self, node: SvgNode<'_>, part: &mut [Position]) {
         if has_lists(node) {
+            // Four calls and no loop: over an array of axes it would be as long, with an invariant.
             lay_list(node, Axis::X, &self.settings, part);
             lay_list(node, Axis::Y, &self.settings, part);
             lay_list(node, Axis::Dx, &self.settings, part);

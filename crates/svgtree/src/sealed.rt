@@ -27,6 +27,7 @@ impl Sealed {
         Ok(Sealed { counts })
     }
 
+    // A pair hands the card back with the fault, as in `Draft::seal`.
     /// Makes the card a draft again, in which node 1 is open; a refusal hands the card back.
     pub fn reopen(self, tables: Tables<'_>) -> Result<Draft, (Sealed, Fault)>
         ensures answer { result ≡ reopened self (entries tables.entry) }

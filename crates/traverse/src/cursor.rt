@@ -68,26 +68,15 @@ impl Traverse {
             return;
         }
         let node = nodes[at];
-        *self = match (edge, node.first, node.next, node.parent) {
-            (Edge::Open(_), Some(child), _, _) => Traverse {
-                root,
-                edge: Some(Edge::Open(child)),
-            },
-            (Edge::Open(k), None, _, _) => Traverse {
-                root,
-                edge: Some(Edge::Close(k)),
-            },
-            (Edge::Close(k), _, _, _) if k == root => Traverse { root, edge: None },
-            (Edge::Close(_), _, Some(next), _) => Traverse {
-                root,
-                edge: Some(Edge::Open(next)),
-            },
-            (Edge::Close(_), _, None, Some(parent)) => Traverse {
-                root,
-                edge: Some(Edge::Close(parent)),
-            },
-            (Edge::Close(_), _, None, None) => Traverse { root, edge: None },
+        let edge = match (edge, node.first, node.next, node.parent) {
+            (Edge::Open(_), Some(child), _, _) => Some(Edge::Open(child)),
+            (Edge::Open(k), None, _, _) => Some(Edge::Close(k)),
+            (Edge::Close(k), _, _, _) if k == root => None,
+            (Edge::Close(_), _, Some(next), _) => Some(Edge::Open(next)),
+            (Edge::Close(_), _, None, Some(parent)) => Some(Edge::Close(parent)),
+            (Edge::Close(_), _, None, None) => None,
         };
+        *self = Traverse { root, edge };
     }
 }
 

@@ -23,6 +23,7 @@ fn write_texts(nodes: &[NodeData], list: &mut [u32])
     requires room { length (text_elements nodes.now (length nodes.now)) ≤ length list.old }
     ensures { list.new ≡ text_elements nodes.now (length nodes.now) ++ drop (length (text_elements nodes.now (length nodes.now))) list.old }
 {
+    // A place of its own to write at: entries are skipped, and those behind stay, which `zip` would not say.
     let mut written = 0;
     for (k, node) in nodes.iter().enumerate() {
         if node.kind.has_tag(EId::Text) {

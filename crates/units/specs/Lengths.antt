@@ -1,8 +1,8 @@
 -- Lengths in the units of the view, and the settings that they are computed from. Each operation rounds once.
-use Rattle.std.specs.Prelude.{Bool, cond, ◌&&◌, List, [], ◌∷◌, Some, None, Ok, Err, Option, Result, Float}
+use Rattle.std.specs.Prelude.{Bool, cond, not, ◌&&◌, List, [], ◌∷◌, find, Some, None, Ok, Err, Option, Result, Float}
 use Rattle.std.specs.Float.Ieee.{lt}
 use Rattle.std.specs.Float.{float_is_finite}
-use Rattle.std.specs.Option.{unwrap_or}
+use Rattle.std.specs.Option.{option_map, unwrap_or}
 use Rattle.names.specs.declared.AId.{AId}
 use Rattle.names.specs.declared.AId.TheVariants as name
 use Rattle.names.specs.AIds as names
@@ -25,8 +25,7 @@ rows s = (setting.Dpi, s.dpi) ∷ (setting.Size, s.size) ∷ (setting.Width, s.w
 
 -- the first setting that is out of range
 abbrev pub first_out_of_range : Settings → Option Setting
-first_out_of_range s =
-    cond (in_range s.dpi) (cond (in_range s.size) (cond (in_range s.width) (cond (in_range s.height) (cond (in_range s.diagonal) None (Some setting.Diagonal)) (Some setting.Height)) (Some setting.Width)) (Some setting.Size)) (Some setting.Dpi)
+first_out_of_range s = option_map (λ (r : Setting × Float). r.0) (find (λ r. not (in_range r.1)) (rows s))
 
 -- a setting out of range is refused, the first
 abbrev pub settings_refused : Option Setting → Result (Unit {0}) Fault

@@ -25,6 +25,7 @@ pub(crate) fn absolute_length(length: Length, dpi: f32, size: f32) -> Option<f32
     }
 }
 
+// usvg's name, and its arguments one by one: the size and the base are those of a node, the settings of all.
 /// A length as a number of view units; `size` is the font size where it stands, `base` what a percent is of.
 pub fn convert_length(length: Length, settings: &Settings, size: f32, base: f32) -> f32
     ensures answer { result ≡ length_of settings.now size base length }

@@ -3,7 +3,7 @@ use card::{Attribute, Fault, Length, Marks, NodeData, Run, TableCounts, Tables, 
 use names::{AId, EId, LengthUnit, Spelled};
 use svgtree::Draft;
 
-/// How many elements, attributes, bytes and lengths a line may make.
+/// How many elements, attributes, bytes and lengths a line may make: the tables are fixed, as a handset's are.
 const NODES: usize = 80;
 
 const ATTRIBUTES: usize = 256;
@@ -64,15 +64,11 @@ impl Room {
             lengths: Run::default(),
             marks: Marks::default(),
         };
-        let length = Length {
-            number: 0.0,
-            unit: LengthUnit::None,
-        };
         Room {
             nodes: [NodeData::default(); NODES],
             attributes: [attribute; ATTRIBUTES],
             bytes: [0; BYTES],
-            lengths: [length; LENGTHS],
+            lengths: [Length::default(); LENGTHS],
         }
     }
 
