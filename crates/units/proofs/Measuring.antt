@@ -5,6 +5,9 @@ use Rattle.std.specs.Option.{option_map}
 use Rattle.names.specs.declared.AId.{AId}
 use Rattle.card.specs.declared.record.Length.{Length}
 use Rattle.card.specs.Contents.{Card}
+use Rattle.document.specs.declared.document.Document.{Document}
+use Rattle.document.specs.declared.node.SvgNode.{SvgNode}
+use Rattle.document.specs.Reads.{card_of, numbered}
 use Rattle.values.specs.Values.{own, closest}
 use Rattle.values.specs.Kinds.{as_length, as_lengths}
 use Rattle.units.specs.declared.settings.Settings.{Settings}
@@ -27,15 +30,20 @@ module _ (s : Settings) (card : Card) (k : ℕ) (name : AId) where
   unfolding list_of measured
   list_some ls e = ap (option_map (map (measured s card k name))) e
 
-module _ (s : Settings) (card : Card) (k : ℕ) (name : AId) (default : Float) where
-  pub resolved_nowhere : None ≡ closest card k name → default ≡ resolved s card k name default
-  unfolding resolved
-  resolved_nowhere e = ap (found_or s card name default) e
+module _ (s : Settings) (d : Document) (k : ℕ) (name : AId) (default : Float) where
+  -- the length at the element found, else the default
+  abbrev or_default : Option SvgNode → Float
+  or_default None = default
+  or_default (Some n) = unwrap_or (length_at s (card_of n.doc) n.id name) default
 
-  pub resolved_found : (e : ℕ) → Some e ≡ closest card k name → unwrap_or (length_at s card e name) default ≡ resolved s card k name default
+  pub resolved_at : (found : Option SvgNode) → found ≡ option_map (numbered d) (closest (card_of d) k name) → or_default found ≡ resolved s (card_of d) k name default
   unfolding resolved
-  resolved_found e q = go (own as_length card e name) ∙ ap (found_or s card name default) q
+  resolved_at found e = ap or_default e ∙ go (closest (card_of d) k name)
     where
-      go : (o : Option Length) → unwrap_or (option_map (measured s card e name) o) default ≡ measured_or s card e name default o
+      own_or : (e : ℕ) (o : Option Length) → unwrap_or (option_map (measured s (card_of d) e name) o) default ≡ measured_or s (card_of d) e name default o
+      own_or e None = refl
+      own_or e (Some l) = refl
+
+      go : (o : Option ℕ) → or_default (option_map (numbered d) o) ≡ found_or s (card_of d) name default o
       go None = refl
-      go (Some l) = refl
+      go (Some e) = own_or e (own as_length (card_of d) e name)

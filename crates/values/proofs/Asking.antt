@@ -4,6 +4,9 @@ use Rattle.std.specs.Option.{option_map}
 use Rattle.std.proofs.lemmas.Bool.{cond-true, cond-false}
 use Rattle.names.specs.declared.AId.{AId}
 use Rattle.card.specs.Contents.{Attr, Card}
+use Rattle.document.specs.declared.document.Document.{Document}
+use Rattle.document.specs.declared.node.SvgNode.{SvgNode}
+use Rattle.document.specs.Reads.{card_of, numbered}
 use Rattle.document.specs.Said.{Said, said_by, attribute}
 use Rattle.values.specs.Values.{Reader, read_of, bound, is_absent, raw, own, bearer, nearest}
 
@@ -42,15 +45,19 @@ module _ {A : Type 0} (read : Reader A) (card : Card) (k : ℕ) (name : AId) whe
   unfolding own
   own_some s e h = sym (cond-false (is_absent name s.bytes) None (read_of read s) h) ∙ raw_some present card k name s e
 
-  -- no element's value counts
-  pub nearest_none : None ≡ bearer card k name → None ≡ nearest read card k name
-  unfolding nearest
-  nearest_none e = ap (bound (λ b. own read card b name)) e
+module _ {A : Type 0} (read : Reader A) (d : Document) (k : ℕ) (name : AId) where
+  -- an element's own value, in its document
+  abbrev own_at : SvgNode → Option A
+  own_at n = own read (card_of n.doc) n.id name
 
-  -- the value of this element counts
-  pub nearest_some : (b : ℕ) → Some b ≡ bearer card k name → own read card b name ≡ nearest read card k name
+  -- the value counts of the element found, if one is
+  pub nearest_at : (found : Option SvgNode) → found ≡ option_map (numbered d) (bearer (card_of d) k name) → bound own_at found ≡ nearest read (card_of d) k name
   unfolding nearest
-  nearest_some b e = ap (bound (λ x. own read card x name)) e
+  nearest_at found e = ap (bound own_at) e ∙ go (bearer (card_of d) k name)
+    where
+      go : (o : Option ℕ) → bound own_at (option_map (numbered d) o) ≡ bound (λ b. own read (card_of d) b name) o
+      go None = refl
+      go (Some b) = refl
 
 -- a value that shows itself
 pub shows_itself : {X : Type 0} (o : Option X) → option_map (λ x. x) o ≡ o

@@ -1,8 +1,8 @@
 //! One search for every kind of value: raw, own and nearest.
-ghost use Rattle.std.specs.Prelude.{◌≡◌, take, IfSome};
+ghost use Rattle.std.specs.Prelude.{◌≡◌, take};
 ghost use Rattle.std.specs.Option.{option_map};
 ghost use Rattle.card.specs.Contents.{above};
-ghost use Rattle.document.specs.Reads.{card_of};
+ghost use Rattle.document.specs.Reads.{card_of, numbered};
 ghost use Rattle.document.specs.Said.{first_passing};
 ghost use Rattle.values.specs.Values.{has, is_absent, raw, own, closest, bearer, nearest};
 
@@ -40,24 +40,21 @@ pub fn attribute<'a, T: FromValue<'a>>(node: SvgNode<'a>, name: AId) -> Option<T
 
 // The closest of the first `most` elements, from a node upward, that has the name.
 fn find_among<'a>(node: SvgNode<'a>, name: AId, most: usize) -> Option<SvgNode<'a>>
-    ensures closest { option_map (λ n. n.id) result ≡ first_passing (has name (card_of node.entry.doc)) (take most (above (card_of node.entry.doc) node.entry.id)) }
-    ensures same_document { IfSome result (λ n. n.doc ≡ node.entry.doc) }
+    ensures { result ≡ option_map (numbered node.entry.doc) (first_passing (has name (card_of node.entry.doc)) (take most (above (card_of node.entry.doc) node.entry.id))) }
 {
     closest_among(node, most, |at| at.has_attribute(name))
 }
 
 /// The closest element, from a node upward, that has the name, whatever its value.
 pub fn closest_with<'a>(element: SvgNode<'a>, name: AId) -> Option<SvgNode<'a>>
-    ensures closest { option_map (λ n. n.id) result ≡ closest (card_of element.entry.doc) element.entry.id name }
-    ensures same_document { IfSome result (λ n. n.doc ≡ element.entry.doc) }
+    ensures { result ≡ option_map (numbered element.entry.doc) (closest (card_of element.entry.doc) element.entry.id name) }
 {
     find_among(element, name, MAX_DEPTH)
 }
 
 // The element whose value counts for a node: of a name that is not inherited, the element itself or its parent.
 fn find_attribute_impl<'a>(node: SvgNode<'a>, name: AId) -> Option<SvgNode<'a>>
-    ensures bearer { option_map (λ n. n.id) result ≡ bearer (card_of node.entry.doc) node.entry.id name }
-    ensures same_document { IfSome result (λ n. n.doc ≡ node.entry.doc) }
+    ensures { result ≡ option_map (numbered node.entry.doc) (bearer (card_of node.entry.doc) node.entry.id name) }
 {
     if name.is_inheritable() {
         return find_among(node, name, MAX_DEPTH);

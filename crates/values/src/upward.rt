@@ -1,8 +1,8 @@
 //! The two ways along the elements that a node lies in: upward to the closest that passes a test, and down from the root.
-ghost use Rattle.std.specs.Prelude.{◌≡◌, ℕ, Bool, take, IfSome};
+ghost use Rattle.std.specs.Prelude.{◌≡◌, ℕ, Bool, take};
 ghost use Rattle.std.specs.Option.{option_map};
 ghost use Rattle.card.specs.Contents.{above};
-ghost use Rattle.document.specs.Reads.{card_of};
+ghost use Rattle.document.specs.Reads.{card_of, numbered};
 ghost use Rattle.document.specs.Said.{first_passing};
 ghost use Rattle.values.specs.Upward.{IsTest, IsStep, stepped};
 
@@ -16,12 +16,11 @@ pub fn closest_among<'a, F: Fn(SvgNode<'a>) -> bool>(
     passes: F,
 ) -> Option<SvgNode<'a>>
     requires { F.IsAlwaysCallable passes }
-    ensures closest { (met : ℕ → Bool) → IsTest node.entry.doc (F.post passes) met → option_map (λ n. n.id) result ≡ first_passing met (take most (above (card_of node.entry.doc) node.entry.id)) }
-    ensures same_document { IfSome result (λ n. n.doc ≡ node.entry.doc) }
+    ensures { (met : ℕ → Bool) → IsTest node.entry.doc (F.post passes) met → result ≡ option_map (numbered node.entry.doc) (first_passing met (take most (above (card_of node.entry.doc) node.entry.id))) }
 {
     let mut at = node;
     let mut left = most;
-    // Elements are counted, and texts on the way are not, so no iterator's `take` serves.
+    // Tried as `successors(..).filter(..).take(most).find(..)`: `filter` asks for an end, which `successors` does not show; with `take(node.doc.len())` before it, the clause stayed unproved.
     while left > 0 {
         if at.is_element() {
             if passes(at) {
@@ -40,8 +39,7 @@ pub fn closest_that<'a, F: Fn(SvgNode<'a>) -> bool>(
     passes: F,
 ) -> Option<SvgNode<'a>>
     requires { F.IsAlwaysCallable passes }
-    ensures closest { (met : ℕ → Bool) → IsTest node.entry.doc (F.post passes) met → option_map (λ n. n.id) result ≡ first_passing met (above (card_of node.entry.doc) node.entry.id) }
-    ensures same_document { IfSome result (λ n. n.doc ≡ node.entry.doc) }
+    ensures { (met : ℕ → Bool) → IsTest node.entry.doc (F.post passes) met → result ≡ option_map (numbered node.entry.doc) (first_passing met (above (card_of node.entry.doc) node.entry.id)) }
 {
     closest_among(node, MAX_DEPTH, passes)
 }

@@ -1,23 +1,22 @@
 use Rattle.std.proofs.Common.{◌≡◌, Some, None, sym, ap, ◌∙◌, subst, arith}
 use Rattle.std.specs.Option.{option_map}
-use Rattle.document.specs.Reads.{card_of, is_element, Leads}
+use Rattle.document.specs.Reads.{card_of, numbered, is_element, Leads}
 use Rattle.values.proofs.Searching.{sought_from, met_here, ends_here, past_element, past_text, none_left}
 use Rattle.values.proofs.upward.closest_among.Goals as goal
 use Rattle.values.proofs.upward.closest_among.Goals.{then-is_element+else-passes, else-is_element}
 
-pub returns-then-passes-clause-closest : goal.returns-then-passes-clause-closest
-returns-then-passes-clause-closest g c = λ met h.
+pub returns-then-passes : goal.returns-then-passes
+returns-then-passes g c = λ met h.
     let same = c.loop-left.invariant.same_document in
     let at = c.loop-left.at.id in
-    sym (met_here c.args.node.doc met c.loop-left.left at (omega arith) (c.if-is_element.ensures ∙ ap (λ d. is_element (card_of d) at) same) (sym c.if-passes.true ∙ h _ _ same c.passes.ensures))
-    ∙ c.loop-left.invariant.way met h
+    let met_at = met_here c.args.node.doc met c.loop-left.left at (omega arith) (c.if-is_element.ensures ∙ ap (λ d. is_element (card_of d) at) same) (sym c.if-passes.true ∙ h _ _ same c.passes.ensures) in
+    ap (λ d. Some (numbered d at)) same ∙ ap (option_map (numbered c.args.node.doc)) (sym met_at ∙ c.loop-left.invariant.way met h)
 
-pub returns-in_err-at-clause-closest : goal.returns-in_err-at-clause-closest
-returns-in_err-at-clause-closest g c = λ met h.
+pub returns-in_err-at : goal.returns-in_err-at
+returns-in_err-at g c = λ met h.
     let at = c.loop-left.at.id in
-    ap (option_map (λ n. n.id)) c.from_residual.ensures
-    ∙ sym (ends_here c.args.node.doc met c.loop-left.left at (subst (λ d. Leads (card_of d) at None) c.loop-left.invariant.same_document c.in_err-at.ensures.leads))
-    ∙ c.loop-left.invariant.way met h
+    let ends = ends_here c.args.node.doc met c.loop-left.left at (subst (λ d. Leads (card_of d) at None) c.loop-left.invariant.same_document c.in_err-at.ensures.leads) in
+    c.from_residual.ensures ∙ ap (option_map (numbered c.args.node.doc)) (sym ends ∙ c.loop-left.invariant.way met h)
 
 pub loop-left-preserved : goal.loop-left-preserved
 loop-left-preserved g c =
@@ -41,7 +40,7 @@ loop-left-preserved g c =
           ];
     }
 
-pub returns-clause-closest : goal.returns-clause-closest
-returns-clause-closest g c = λ met h.
+pub returns : goal.returns
+returns g c = λ met h.
     let z : c.loop-left.left ≡ 0 = omega arith in
-    sym (ap (λ n. sought_from c.args.node.doc met n c.loop-left.at.id) z ∙ none_left c.args.node.doc met c.loop-left.at.id) ∙ c.loop-left.invariant.way met h
+    ap (option_map (numbered c.args.node.doc)) (sym (ap (λ n. sought_from c.args.node.doc met n c.loop-left.at.id) z ∙ none_left c.args.node.doc met c.loop-left.at.id) ∙ c.loop-left.invariant.way met h)
