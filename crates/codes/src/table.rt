@@ -1,8 +1,11 @@
 //! A table of codes: a count in four bytes, then columns of bytes or of codes of four bytes, the least byte first.
-ghost use Rattle.std.specs.Prelude.{◌≡◌, ◌≢◌, ◌+◌, ◌≤◌, true, false, length, take, drop, Some, MatchOption};
+ghost use Rattle.std.specs.Prelude.{◌≡◌, ◌+◌, ◌≤◌, true, false, length, take, drop, MatchOption};
+ghost use Rattle.std.specs.Int.NonZero.{non_zero_u32_get};
+ghost use Rattle.std.specs.Option.{option_map};
 ghost use Rattle.codes.specs.Codes.{number_at, is_sized, code_in};
 
 use card::MAX_NODES;
+use std::num::NonZeroU32;
 
 /// A table lent by its owner, which has WIDTH bytes for each number below its count.
 #[derive(Clone, Copy)]
@@ -58,19 +61,15 @@ impl<'a, const WIDTH: u8> CodeTable<'a, WIDTH> {
     }
 
     /// A number's code in the column that begins behind so many bytes of each number; none if it is 0, or past the count.
-    pub fn code(self, behind: u8, k: u32) -> Option<u32>
+    pub fn code(self, behind: u8, k: u32) -> Option<NonZeroU32>
         requires { behind + 4 ≤ WIDTH }
-        ensures answer { result ≡ code_in self.entry.bytes.now behind k }
-        ensures above { result ≢ Some 0 }
+        ensures { option_map non_zero_u32_get result ≡ code_in self.entry.bytes.now behind k }
     {
         let count = self.len();
         if k >= count {
             return None;
         }
         let column = 4 + usize::from(behind) * count as usize;
-        match number_at(self.bytes, column + 4 * k as usize) {
-            0 => None,
-            code => Some(code),
-        }
+        NonZeroU32::new(number_at(self.bytes, column + 4 * k as usize))
     }
 }

@@ -2,6 +2,7 @@
 ghost use Rattle.std.specs.Prelude.{true, None};
 
 use crate::asked::Stage;
+use std::num::NonZeroU32;
 
 /// Every number is drawn, and none has a flow.
 #[derive(Clone, Copy, Debug, PartialEq, Eq)]
@@ -16,7 +17,7 @@ impl Stage for EveryStage {
         true
     }
 
-    fn flow(&self, _n: u32) -> Option<u32> {
+    fn flow(&self, _n: u32) -> Option<NonZeroU32> {
         None
     }
 }

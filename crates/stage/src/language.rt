@@ -8,6 +8,7 @@ use crate::entry::any_matches;
 use crate::reference::path_of;
 use document::{Document, SvgNode};
 use names::AId;
+use std::num::NonZeroU32;
 use values::{Text, attribute};
 
 /// A document seen in a language: both are lent by their owners.
@@ -46,7 +47,7 @@ impl Stage for LanguageStage<'_> {
         node.is_element() && speaks_language(node, self.language)
     }
 
-    fn flow(&self, n: u32) -> Option<u32> {
-        path_of(self.doc.node(n))
+    fn flow(&self, n: u32) -> Option<NonZeroU32> {
+        path_of(self.doc.node(n)).and_then(NonZeroU32::new)
     }
 }

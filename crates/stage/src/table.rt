@@ -7,6 +7,7 @@ ghost use Rattle.stage.specs.Made.{TableMade};
 use crate::asked::Stage;
 use card::Fault;
 use codes::CodeTable;
+use std::num::NonZeroU32;
 
 /// A table of a stage, lent by its owner: a drawn byte and a code of four bytes for each number.
 #[derive(Clone, Copy)]
@@ -48,7 +49,7 @@ impl Stage for TableStage<'_> {
     }
 
     // The codes stand behind the drawn bytes.
-    fn flow(&self, n: u32) -> Option<u32> {
+    fn flow(&self, n: u32) -> Option<NonZeroU32> {
         self.table.code(1, n)
     }
 }

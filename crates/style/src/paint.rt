@@ -1,5 +1,9 @@
 //! The two questions that a paint answers of each number, and the two paints that need no table.
-ghost use Rattle.std.specs.Prelude.{◌≡◌, ℕ, Some, None, Option as Maybe, ◌≢◌};
+ghost use Rattle.std.specs.Prelude.{◌≡◌, ℕ, Some, None, Option as Maybe};
+ghost use Rattle.std.specs.Int.NonZero.{non_zero_u32_get};
+ghost use Rattle.std.specs.Option.{option_map};
+
+use std::num::NonZeroU32;
 
 /// Says of each number what it is filled with, and what its outline is drawn with: a code above 0, or nothing.
 pub trait Paint {
@@ -8,14 +12,12 @@ pub trait Paint {
     ghost stroke: { Self → ℕ → Maybe ℕ };
 
     /// The code of what a number is filled with.
-    fn fill(&self, n: u32) -> Option<u32>
-        ensures answer { result ≡ fill self.now n }
-        ensures above { result ≢ Some 0 };
+    fn fill(&self, n: u32) -> Option<NonZeroU32>
+        ensures { option_map non_zero_u32_get result ≡ fill self.now n };
 
     /// The code of what a number's outline is drawn with.
-    fn stroke(&self, n: u32) -> Option<u32>
-        ensures answer { result ≡ stroke self.now n }
-        ensures above { result ≢ Some 0 };
+    fn stroke(&self, n: u32) -> Option<NonZeroU32>
+        ensures { option_map non_zero_u32_get result ≡ stroke self.now n };
 }
 
 /// Every number is filled with 1, and has no outline: what stands in a clip path is drawn so.
@@ -27,11 +29,11 @@ impl Paint for ClipPaint {
 
     ghost stroke = { λ _ _. None };
 
-    fn fill(&self, _n: u32) -> Option<u32> {
-        Some(1)
+    fn fill(&self, _n: u32) -> Option<NonZeroU32> {
+        Some(NonZeroU32::MIN)
     }
 
-    fn stroke(&self, _n: u32) -> Option<u32> {
+    fn stroke(&self, _n: u32) -> Option<NonZeroU32> {
         None
     }
 }
@@ -45,11 +47,11 @@ impl Paint for NoPaint {
 
     ghost stroke = { λ _ _. None };
 
-    fn fill(&self, _n: u32) -> Option<u32> {
+    fn fill(&self, _n: u32) -> Option<NonZeroU32> {
         None
     }
 
-    fn stroke(&self, _n: u32) -> Option<u32> {
+    fn stroke(&self, _n: u32) -> Option<NonZeroU32> {
         None
     }
 }
