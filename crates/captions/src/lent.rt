@@ -54,6 +54,7 @@ pub(crate) struct Lent {
 impl Lent {
     /// Cleared tables of these sizes.
     pub(crate) fn new(heap: Global, sizes: TableCounts) -> Result<Lent, AllocError> {
+        // Written out: no name is the blank one, so an attribute has no default.
         let attribute = Attribute {
             name: AId::AlignmentBaseline,
             value: Run::default(),

@@ -24,6 +24,7 @@ impl<'a> Words<'a> {
         self.rest.is_none()
     }
 
+    // None is what cannot be read: only the reader of a line, which may lack memory too, needs an error for it.
     /// The next word: what stands before the next space, or before the end.
     pub(crate) fn word(&mut self) -> Option<&'a str> {
         let mut parts = self.rest?.splitn(2, |byte| *byte == b' ');

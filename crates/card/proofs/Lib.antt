@@ -5,6 +5,7 @@ pub mod Checked
 pub mod Spelling
 pub mod Each
 pub mod Climb
+pub mod Downward
 pub mod Placed
 pub mod Judging
 pub mod Within

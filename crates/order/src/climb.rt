@@ -30,6 +30,7 @@ impl WholeTables<'_> {
         requires sound { SoundBelow (entries self.tables) self.counts (from + 1) }
         ensures { result ≡ length (above (contents (entries self.entry.tables) self.entry.counts) from) }
     {
+        // Along links, as above.
         let mut at = from;
         let mut elements = 0;
         while at > 0 {

@@ -24,13 +24,9 @@ impl WholeTables<'_> {
     fn find_last_element(self) -> Option<u32>
         ensures { result ≡ last_element (entries self.entry.tables) self.entry.counts }
     {
-        let mut last = None;
-        for (k, node) in self.tables.nodes[..self.counts.nodes].iter().enumerate() {
-            if node.kind.is_element() {
-                last = Some(k as u32);
-            }
-        }
-        last
+        (0..self.counts.nodes as u32)
+            .rev()
+            .find(|k| self.tables.nodes[*k as usize].kind.is_element())
     }
 
     // Judges each node in turn until one is out of order.
@@ -61,6 +57,7 @@ impl WholeTables<'_> {
     pub fn find_out_of_order(self) -> Option<u32>
         ensures the_lowest_node_out_of_order { result ≡ lowest_out_of_order (entries self.entry.tables) self.entry.counts }
     {
+        // As many as the largest card needs: nothing here allocates.
         let mut notes = [Note::default(); MAX_NODES];
         self.find_links(&mut notes);
         self.pass_nodes(&mut notes)

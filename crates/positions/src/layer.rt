@@ -9,6 +9,7 @@ ghost use Rattle.positions.specs.Part.{PartChanged};
 use characters::{count_chars_below, count_chars_in, subtree_end};
 use document::SvgNode;
 
+// A trait and no closure: what it makes of an entry is its ghost member, so that no law has to be shown of each layer.
 /// What an element lays over the entries of its characters.
 pub(crate) trait Layer<T> {
     // What an element makes of the entry of its i-th character.

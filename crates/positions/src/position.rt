@@ -13,6 +13,7 @@ pub struct Position {
     pub dy: Option<f32>,
 }
 
+// An enum and no closures: the definitions speak of the coordinate by it.
 /// A coordinate of a position.
 #[derive(Clone, Copy)]
 pub(crate) enum Axis {

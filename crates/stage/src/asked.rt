@@ -1,5 +1,5 @@
 //! The two questions that a stage answers of each number.
-ghost use Rattle.std.specs.Prelude.{◌≡◌, ℕ, ◌≤◌, Bool, length, map, Option as Maybe};
+ghost use Rattle.std.specs.Prelude.{◌≡◌, ℕ, ◌≤◌, Bool, length, Option as Maybe};
 ghost use Rattle.std.specs.Int.NonZero.{non_zero_u32_get};
 ghost use Rattle.std.specs.Option.{option_map};
 ghost use Rattle.stage.specs.Recorded.{recorded};
@@ -26,16 +26,16 @@ pub fn record_answers<S: Stage>(
     stage: &S,
     count: u32,
     drawn: &mut [bool],
-    flows: &mut [Option<NonZeroU32>],
+    flows: &mut [Option<u32>],
 )
     requires drawn_fits { count ≤ length drawn.old }
     requires flows_fit { count ≤ length flows.old }
     ensures drawn { drawn.new ≡ recorded (S.Stage.drawn stage.now) count drawn.old }
-    ensures flows { map (option_map non_zero_u32_get) flows.new ≡ recorded (S.Stage.flow stage.now) count (map (option_map non_zero_u32_get) flows.old) }
+    ensures flows { flows.new ≡ recorded (S.Stage.flow stage.now) count flows.old }
 {
     // By number: over `iter_mut` of both tables the proof loses what was written, and did not close.
     for k in 0..count {
         drawn[k as usize] = stage.is_drawn(k);
-        flows[k as usize] = stage.flow(k);
+        flows[k as usize] = stage.flow(k).map(NonZeroU32::get);
     }
 }

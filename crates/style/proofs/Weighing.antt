@@ -6,7 +6,7 @@ use Rattle.card.specs.Contents.{Card, above}
 use Rattle.values.specs.Upward.{stepped}
 use Rattle.values.specs.Values.{own}
 use Rattle.values.specs.Keywords.{as_keyword}
-use Rattle.values.proofs.Asking.{shows_itself}
+use Rattle.std.proofs.lemmas.Iterator.Adapters.{option_map_id}
 use Rattle.style.specs.declared.keyword.Weighing.{Weighing}
 use Rattle.style.specs.Fonts.{weight_words, weighed, own_weight, weight_within, weight}
 
@@ -14,7 +14,7 @@ module _ (card : Card) where
   -- an element's own weight, by what it says
   pub own_weighed : (k around : ℕ) (o : Option Weighing) → option_map (λ x. x) o ≡ own (as_keyword weight_words) card k name.FontWeight → weighed around o ≡ own_weight card k around
   unfolding own_weight
-  own_weighed k around o e = ap (weighed around) (sym (shows_itself o) ∙ e)
+  own_weighed k around o e = ap (weighed around) (sym (option_map_id o) ∙ e)
 
   -- within some elements the weight starts at 400, and each changes it
   stepped_weight : (xs : List ℕ) → stepped (own_weight card) 400 xs ≡ weight_within card xs

@@ -1,4 +1,4 @@
-//! The font of what stands in an element.
+//! The font of what stands in an element: where two questions differ by a name alone, both are usvg's.
 ghost use Rattle.std.specs.Prelude.{◌≡◌, ◌≤◌};
 ghost use Rattle.document.specs.Reads.{card_of};
 ghost use Rattle.style.specs.Fonts.{font_style, font_stretch, reweighed, own_weight, weight, small_caps, optical_sizing, visible};

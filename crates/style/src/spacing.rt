@@ -1,4 +1,5 @@
-//! How far apart the characters of an element stand, and how long its text is.
+//! How far apart the characters of an element stand, and how long its text is: where two questions differ by a name alone,
+//! both are usvg's.
 ghost use Rattle.std.specs.Prelude.{◌≡◌};
 ghost use Rattle.document.specs.Reads.{card_of};
 ghost use Rattle.style.specs.Spacing.{kerning, letters_apart, words_apart, long, adjusted};
@@ -14,11 +15,8 @@ use values::{LengthAdjust, attribute};
 pub fn applies_kerning(node: SvgNode<'_>, settings: &Settings) -> bool
     ensures { result ≡ kerning settings.now (card_of node.entry.doc) node.entry.id }
 {
-    // `!= 0.0 && ..` is no plainer, and its proof was tried and did not close.
-    if resolve_length(node, AId::Kerning, settings, -1.0) == 0.0 {
-        return false;
-    }
-    !is_nearest(node, AId::FontKerning, b"none")
+    !(resolve_length(node, AId::Kerning, settings, -1.0) == 0.0
+        || is_nearest(node, AId::FontKerning, b"none"))
 }
 
 /// What is added between two characters.

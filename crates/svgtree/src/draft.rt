@@ -37,7 +37,8 @@ impl Draft {
         Ok(Draft { counts, open: 1 })
     }
 
-    // The tables come one by one: a struct of four would lend a call more to write than it may.
+    // The tables come one by one: a struct of four would lend a call more to write than it may. So each call gathers them
+    // for its checks itself.
     /// Opens an element inside the open one, and answers its number.
     pub fn open<'t>(
         &mut self,

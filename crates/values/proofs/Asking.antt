@@ -58,8 +58,3 @@ module _ {A : Type 0} (read : Reader A) (d : Document) (k : ℕ) (name : AId) wh
       go : (o : Option ℕ) → bound own_at (option_map (numbered d) o) ≡ bound (λ b. own read (card_of d) b name) o
       go None = refl
       go (Some b) = refl
-
--- a value that shows itself
-pub shows_itself : {X : Type 0} (o : Option X) → option_map (λ x. x) o ≡ o
-shows_itself None = refl
-shows_itself (Some x) = refl

@@ -1,4 +1,4 @@
-//! The attributes of a text's elements that are asked for by name.
+//! The attributes of a text's elements that are asked for by name: where two differ by it alone, both are usvg's.
 ghost use Rattle.std.specs.Prelude.{◌≡◌};
 ghost use Rattle.std.specs.Option.{option_map};
 ghost use Rattle.document.specs.Reads.{card_of};

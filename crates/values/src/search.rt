@@ -19,6 +19,7 @@ fn is_absent(name: AId, value: &[u8]) -> bool
     name.none_is_absent() && value == b"none".as_slice()
 }
 
+// The node is what is asked and the name is the question, as in `node.value(name)`: no struct for the two.
 /// A raw value: what the first attribute of the name gives.
 pub fn try_attribute<'a, T: FromValue<'a>>(node: SvgNode<'a>, name: AId) -> Option<T>
     ensures { option_map T.FromValue.shows result ≡ raw T.FromValue.reads (card_of node.entry.doc) node.entry.id name }

@@ -20,7 +20,8 @@ pub fn closest_among<'a, F: Fn(SvgNode<'a>) -> bool>(
 {
     let mut at = node;
     let mut left = most;
-    // Tried as `successors(..).filter(..).take(most).find(..)`: `filter` asks for an end, which `successors` does not show; with `take(node.doc.len())` before it, the clause stayed unproved.
+    // Tried as `successors(..).filter(..).take(most).find(..)`: `filter` asks for an end, which `successors` does not
+    // show. With `take(node.doc.len())` before it the clause stayed unproved, and no lemma says what `successors` yields.
     while left > 0 {
         if at.is_element() {
             if passes(at) {

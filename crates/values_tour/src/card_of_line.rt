@@ -58,6 +58,7 @@ fn length_in_unit(word: &str, width: usize) -> Option<Length> {
 
 impl Room {
     pub(crate) fn new() -> Room {
+        // Written out: no name is the blank one, so an attribute has no default.
         let attribute = Attribute {
             name: AId::X,
             value: Run::default(),

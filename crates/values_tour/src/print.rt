@@ -6,6 +6,7 @@ use names::{AId, Spelled};
 use order::check_card;
 use units::{Settings, convert_list, resolve_font_size};
 
+// The host and the settings go together here, but no more than the way out goes with what is printed: no struct for them.
 // Prints the sizes from the first nested element inward.
 fn print_sizes(
     rt: &HostRuntime,
@@ -32,6 +33,7 @@ fn print_list(
     let spelling = name.to_str();
     print!(rt; "{spelling}")?;
     if let Some(list) = convert_list(node, name, settings) {
+        // A list computes each length when it is asked for it, and has no iterator.
         for length in (0..list.len()).filter_map(|i| list.get(i)) {
             print!(rt; " {length}")?;
         }
