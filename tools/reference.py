@@ -4,7 +4,7 @@
     python3 tools/reference.py < crates/captions/stdin
 
 This model shares no code with the library. It follows the rules in docs/CARD.md, docs/REFUSALS.md and docs/SCRIPT.md,
-and the expected outputs of the repository are made with it. It favours plain tests over speed.
+and with oracle/model.py it makes the expected output of the program. It favours plain tests over speed.
 
 Parts of this file: names, records, the order of a card, the calls, the reading of a script, the program.
 """

@@ -16,6 +16,9 @@ pub(crate) enum Answer {
     Sealed,
     Reopened,
     Admitted,
+    Settings,
+    Stage,
+    Rotations(Vec<f32>),
     Texts(Vec<u32>),
 }
 
@@ -86,6 +89,15 @@ impl fmt::Display for Answer {
             Answer::Sealed => write!(f, "sealed"),
             Answer::Reopened => write!(f, "reopened"),
             Answer::Admitted => write!(f, "admitted"),
+            Answer::Settings => write!(f, "settings"),
+            Answer::Stage => write!(f, "stage"),
+            Answer::Rotations(angles) => {
+                write!(f, "rotations")?;
+                for angle in angles.as_slice() {
+                    write!(f, " {angle}")?;
+                }
+                Ok(())
+            }
             Answer::Texts(list) => {
                 write!(f, "texts")?;
                 for text in list.as_slice() {

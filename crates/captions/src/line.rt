@@ -1,9 +1,11 @@
 //! The lines of a script: what call each one makes, with what it is given.
 use crate::answer::NoAnswer;
+use crate::choices::StageChoice;
 use crate::words::Words;
 use card::{Attribute, Length, Marks, NodeData, NodeKind, Run, TableCounts};
 use names::{AId, EId, Spelled};
 use std::alloc::Global;
+use units::Settings;
 
 /// A line that could be read.
 #[derive(Drop)]
@@ -18,6 +20,9 @@ pub(crate) enum Line {
     Reopen,
     Admit(TableCounts),
     Poke(Poke),
+    Settings(Settings),
+    Stage(StageChoice),
+    Rotations(u32, usize),
     Texts(usize),
 }
 
@@ -138,6 +143,28 @@ fn give(words: &mut Words<'_>, heap: Global, most: usize) -> Result<Line, NoAnsw
     Ok(Line::Give(name, value, marks, lengths(words, heap, most)?))
 }
 
+// Five numbers as settings.
+fn settings(words: &mut Words<'_>) -> Option<Settings> {
+    Some(Settings {
+        dpi: words.float()?,
+        size: words.float()?,
+        width: words.float()?,
+        height: words.float()?,
+        diagonal: words.float()?,
+    })
+}
+
+// A stage: all is drawn, or what a table or a language says.
+fn stage(words: &mut Words<'_>, heap: Global) -> Result<Line, NoAnswer> {
+    let choice = match words.word().ok_or(NoAnswer::Unreadable)? {
+        "all" => StageChoice::Every,
+        "table" => StageChoice::Table(words.text(heap)?),
+        "language" => StageChoice::Language(words.text(heap)?),
+        _ => return Err(NoAnswer::Unreadable),
+    };
+    Ok(Line::Stage(choice))
+}
+
 // A line of a word and plain words after it.
 fn plain(word: &str, words: &mut Words<'_>) -> Option<Line> {
     match word {
@@ -149,6 +176,8 @@ fn plain(word: &str, words: &mut Words<'_>) -> Option<Line> {
         "reopen" => Some(Line::Reopen),
         "admit" => Some(Line::Admit(counts(words)?)),
         "poke" => Some(Line::Poke(read_poke(words)?)),
+        "settings" => Some(Line::Settings(settings(words)?)),
+        "rotations" => Some(Line::Rotations(words.number()?, words.number()? as usize)),
         "texts" => Some(Line::Texts(words.number()? as usize)),
         _ => None,
     }
@@ -160,6 +189,7 @@ pub(crate) fn read_line(bytes: &[u8], heap: Global) -> Result<Line, NoAnswer> {
     let line = match words.word().ok_or(NoAnswer::Unreadable)? {
         "give" => give(&mut words, heap, bytes.len())?,
         "write" => Line::Write(words.text(heap)?),
+        "stage" => stage(&mut words, heap)?,
         word => plain(word, &mut words).ok_or(NoAnswer::Unreadable)?,
     };
     if words.ended() {

@@ -2,6 +2,7 @@
 #![tactic(auto)]
 
 mod answer;
+mod choices;
 mod lent;
 mod line;
 mod session;

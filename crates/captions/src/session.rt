@@ -1,12 +1,14 @@
 //! A session: one card in four lent tables, and what each call on it answers.
 use crate::answer::{Answer, NoAnswer};
+use crate::choices::Choices;
 use crate::lent::Lent;
 use crate::line::{Line, read_line};
-use card::{MAX_ATTRIBUTES, MAX_BYTES, MAX_LENGTHS, MAX_NODES, TableCounts, Tables, Value};
+use card::{Fault, MAX_ATTRIBUTES, MAX_BYTES, MAX_LENGTHS, MAX_NODES, TableCounts, Tables, Value};
 use names::{AId, EId};
 use std::alloc::{AllocError, Global};
 use std::mem::take;
 use svgtree::{Draft, Sealed};
+use text::rotations;
 
 // Largest tables, for a script that lends none of its own.
 const LARGEST: TableCounts = TableCounts {
@@ -25,12 +27,13 @@ enum Card {
     Ready(Sealed),
 }
 
-/// A session: the card that the calls are made on, and the tables that it is lent.
+/// A session: the card that the calls are made on, the tables that it is lent, and what was chosen for its calls.
 #[derive(Drop)]
 pub(crate) struct Session {
     heap: Global,
     lent: Lent,
     card: Card,
+    choices: Choices,
 }
 
 impl Card {
@@ -76,6 +79,7 @@ impl Session {
             heap,
             lent: Lent::new(heap, LARGEST)?,
             card: Card::Missing,
+            choices: Choices::new(),
         })
     }
 
@@ -99,6 +103,15 @@ impl Session {
             Line::Reopen => self.card.reopen(self.lent.tables()),
             Line::Admit(counts) => self.admit(counts),
             Line::Poke(poke) => self.lent.poke(poke),
+            Line::Settings(settings) => {
+                self.choices.choose_settings(settings);
+                Ok(Answer::Settings)
+            }
+            Line::Stage(stage) => {
+                self.choices.choose_stage(stage)?;
+                Ok(Answer::Stage)
+            }
+            Line::Rotations(element, room) => self.rotations(element, room),
             Line::Texts(room) => self.texts(room),
         }
     }
@@ -159,6 +172,25 @@ impl Session {
     fn close(&mut self) -> Result<Answer, NoAnswer> {
         let node = self.card.draft()?.close(self.lent.tables())?;
         Ok(Answer::Closed(node))
+    }
+
+    // The angles of an element's characters, into a table of so many entries. A script may ask for more than a card can
+    // have: the refusal of a smaller table says how many there are.
+    fn rotations(&self, element: u32, room: usize) -> Result<Answer, NoAnswer> {
+        let Card::Ready(sealed) = &self.card else {
+            return Err(NoAnswer::NotNow);
+        };
+        let tables = self.lent.tables();
+        let mut angles = vec![in self.heap; 0.0f32; room.min(MAX_BYTES)]?;
+        let mut answer = rotations(sealed, tables, element, angles.as_mut_slice());
+        if let Err(Fault::AnglesShort(count)) = answer
+            && count <= room
+        {
+            angles = vec![in self.heap; 0.0f32; count]?;
+            answer = rotations(sealed, tables, element, angles.as_mut_slice());
+        }
+        angles.truncate(answer?);
+        Ok(Answer::Rotations(angles))
     }
 
     fn texts(&self, room: usize) -> Result<Answer, NoAnswer> {

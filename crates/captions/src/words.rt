@@ -38,6 +38,11 @@ impl<'a> Words<'a> {
         number_of(self.word()?)
     }
 
+    /// The next word as a float.
+    pub(crate) fn float(&mut self) -> Option<f32> {
+        self.word()?.parse().ok()
+    }
+
     /// The next word as a link: a number, or `-` for none.
     pub(crate) fn link(&mut self) -> Option<Option<u32>> {
         match self.word()? {
