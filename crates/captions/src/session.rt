@@ -58,7 +58,7 @@ impl Card {
         answer
     }
 
-    // As `seal`, from the other type to the one: a function for both would be given the variants, the call and the answers.
+    // As `seal`, the other way round: one function for both would be given the variants, the call and the answers.
     // Where the sealed card is refused it stays.
     fn reopen(&mut self, tables: Tables<'_>) -> Result<Answer, NoAnswer> {
         let (card, answer) = match take(self) {

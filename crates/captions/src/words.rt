@@ -24,7 +24,7 @@ impl<'a> Words<'a> {
         self.rest.is_none()
     }
 
-    // None is what cannot be read: only the reader of a line, which may lack memory too, needs an error for it.
+    // None is what cannot be read. Where memory may lack too, in `text` and in the reader of a line, an error is made of it.
     /// The next word: what stands before the next space, or before the end.
     pub(crate) fn word(&mut self) -> Option<&'a str> {
         let mut parts = self.rest?.splitn(2, |byte| *byte == b' ');
@@ -97,7 +97,8 @@ fn number_of(word: &str) -> Option<u32> {
     word.parse().ok()
 }
 
-// A length by a word that ends in a unit of this width. No library reads lengths, so each program has a reader of its own.
+// A length by a word that ends in a unit of this width.
+// Each program has a reader of its own: the library parses nothing, and a crate for these lines alone would be longer.
 fn length_of(word: &str, width: usize) -> Option<Length> {
     let split = word.len().checked_sub(width)?;
     let (number, unit) = word.split_at_checked(split)?;

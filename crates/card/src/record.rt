@@ -101,6 +101,7 @@ pub struct NodeData {
     pub kind: NodeKind,
 }
 
+// A card is four tables with their counts, by its format: links and runs in it are numbers of entries.
 /// How many entries of each table a card uses.
 #[derive(Clone, Copy, Default)]
 pub struct TableCounts {
@@ -110,6 +111,7 @@ pub struct TableCounts {
     pub lengths: usize,
 }
 
+// Four slices and no heap: whoever has the tables lends them. The counts come apart, as a card keeps them and not its lender.
 /// The four tables of a card, lent for reading.
 #[derive(Clone, Copy)]
 pub struct Tables<'a> {

@@ -9,7 +9,8 @@ use crate::whole::WholeTables;
 
 impl WholeTables<'_> {
     // Whether an element is a node or lies above it, where the nodes so far are in order.
-    // Parents have lower numbers, so the way up ends as soon as it is past the number. It follows links, no index.
+    // Parents have lower numbers, so the way up ends as soon as it is past the number. It follows links, no
+    // index: no lemma says what the library's `successors` yields.
     pub(crate) fn lies_above(self, from: u32, sought: u32) -> bool
         requires sound { SoundBelow (entries self.tables) self.counts (from + 1) }
         ensures { result ≡ member sought (above (contents (entries self.entry.tables) self.entry.counts) from) }
@@ -30,7 +31,7 @@ impl WholeTables<'_> {
         requires sound { SoundBelow (entries self.tables) self.counts (from + 1) }
         ensures { result ≡ length (above (contents (entries self.entry.tables) self.entry.counts) from) }
     {
-        // Along links, as above.
+        // Along links, for the same reason.
         let mut at = from;
         let mut elements = 0;
         while at > 0 {

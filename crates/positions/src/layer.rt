@@ -33,7 +33,8 @@ fn lay_at<T, L: Layer<T>>(
     layer.lay(node, &mut table[offset..offset + count]);
 }
 
-// That it is an element whose characters have room is asked of three functions: a type would be made for each call.
+// That it is an element whose characters have room is asked of three functions: a type would be made for each call, and
+// so would one of node and table.
 /// Lays the lists of an element and of all below it over the entries of its characters, the later over the earlier.
 pub(crate) fn lay_all<T, L: Layer<T>>(layer: &L, node: SvgNode<'_>, table: &mut [T])
     requires element { is_element (card_of node.doc) node.id ≡ true }
@@ -42,7 +43,7 @@ pub(crate) fn lay_all<T, L: Layer<T>>(layer: &L, node: SvgNode<'_>, table: &mut 
 {
     let end = subtree_end(node);
     let mut offset = 0;
-    // The numbers from an element to the end of what lies below it; the offset runs along with them.
+    // A loop and no `fold`: the table is written on the way, and only the offset would be carried.
     for e in node.id..end {
         let inner = node.doc.node(e);
         if inner.is_element() {

@@ -1,4 +1,4 @@
-//! The font of what stands in an element: where two questions differ by a name alone, both are usvg's.
+//! The font of what stands in an element.
 ghost use Rattle.std.specs.Prelude.{◌≡◌, ◌≤◌};
 ghost use Rattle.document.specs.Reads.{card_of};
 ghost use Rattle.style.specs.Fonts.{font_style, font_stretch, reweighed, own_weight, weight, small_caps, optical_sizing, visible};
@@ -16,6 +16,7 @@ pub fn font_style(node: SvgNode<'_>) -> FontStyle
     find_attribute::<FontStyle>(node, AId::FontStyle).unwrap_or(FontStyle::Normal)
 }
 
+// As the one above, under usvg's own name: a function for both would be given all that the line says.
 /// How wide the font is.
 pub fn font_stretch(node: SvgNode<'_>) -> FontStretch
     ensures { result ≡ font_stretch (card_of node.entry.doc) node.entry.id }

@@ -1,5 +1,4 @@
-//! How far apart the characters of an element stand, and how long its text is: where two questions differ by a name alone,
-//! both are usvg's.
+//! How far apart the characters of an element stand, and how long its text is.
 ghost use Rattle.std.specs.Prelude.{◌≡◌};
 ghost use Rattle.document.specs.Reads.{card_of};
 ghost use Rattle.style.specs.Spacing.{kerning, letters_apart, words_apart, long, adjusted};
@@ -26,6 +25,7 @@ pub fn letter_spacing(node: SvgNode<'_>, settings: &Settings) -> f32
     resolve_length(node, AId::LetterSpacing, settings, 0.0)
 }
 
+// As the one above, under usvg's own name: a function for both would be given all that the line says.
 /// What is added between two words.
 pub fn word_spacing(node: SvgNode<'_>, settings: &Settings) -> f32
     ensures { result ≡ words_apart settings.now (card_of node.entry.doc) node.entry.id }

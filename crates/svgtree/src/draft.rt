@@ -38,7 +38,7 @@ impl Draft {
     }
 
     // The tables come one by one: a struct of four would lend a call more to write than it may. So each call gathers them
-    // for its checks itself.
+    // for its checks itself: a function that did would be given all of them again.
     /// Opens an element inside the open one, and answers its number.
     pub fn open<'t>(
         &mut self,
@@ -75,6 +75,7 @@ impl Draft {
         Ok(number)
     }
 
+    // The tables are gathered as in `open`.
     /// Writes a text inside the open element, and answers its number.
     pub fn write<'t>(
         &mut self,
@@ -115,6 +116,7 @@ impl Draft {
         Ok(number)
     }
 
+    // The tables are gathered as in `open`.
     /// Gives the open element an attribute, and answers the attribute's number.
     pub fn give<'t>(
         &mut self,

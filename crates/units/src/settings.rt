@@ -5,7 +5,7 @@ ghost use Rattle.units.specs.Lengths.{in_range, rows, first_out_of_range, settin
 use card::{Fault, Setting};
 
 // They go beside a node and not into it: one set serves all nodes of a card, and another may be tried. And beside a size:
-// that changes from element to element, and they do not.
+// that changes from element to element, and they do not. And beside a name: that is the question.
 /// What lengths and sizes are computed from: dots to the inch, the size to begin with, and the view's measures.
 #[derive(Clone, Copy)]
 pub struct Settings {

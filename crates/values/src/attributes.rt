@@ -1,4 +1,4 @@
-//! The attributes of a text's elements that are asked for by name: where two differ by it alone, both are usvg's.
+//! The attributes of a text's elements that are asked for by name.
 ghost use Rattle.std.specs.Prelude.{◌≡◌};
 ghost use Rattle.std.specs.Option.{option_map};
 ghost use Rattle.document.specs.Reads.{card_of};
@@ -18,6 +18,7 @@ pub fn text_anchor(node: SvgNode<'_>) -> TextAnchor
     find_attribute::<TextAnchor>(node, AId::TextAnchor).unwrap_or(TextAnchor::Start)
 }
 
+// As the one above, under usvg's own name: a function for both would be given all that the line says.
 /// The direction in which an element is written.
 pub fn convert_writing_mode(node: SvgNode<'_>) -> WritingMode
     ensures { result ≡ writing_mode (card_of node.entry.doc) node.entry.id }

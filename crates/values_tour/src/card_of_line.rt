@@ -38,7 +38,8 @@ pub(crate) struct Room {
     lengths: [Length; LENGTHS],
 }
 
-// A word as a length, where it is one. No library reads lengths, so each program has a reader of its own.
+// A word as a length, where it is one.
+// Each program has a reader of its own: the library parses nothing, and a crate for these lines alone would be longer.
 fn length_of(word: &str) -> Option<Length> {
     // The longest unit first, since every word ends in the empty one.
     [2usize, 1, 0]
