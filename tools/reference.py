@@ -1,7 +1,9 @@
 #!/usr/bin/env python3
 """A second opinion on the card script: reads a script on standard input, prints what the program must print.
 
-    python3 tools/reference.py < crates/captions/stdin
+    python3 tools/reference.py < cards/plain.card
+
+It knows the calls on a card up to texts; the lines for settings, stages and angles are in oracle/model.py.
 
 This model shares no code with the library. It follows the rules in docs/CARD.md, docs/REFUSALS.md and docs/SCRIPT.md,
 and with oracle/model.py it makes the expected output of the program. It favours plain tests over speed.

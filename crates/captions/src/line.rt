@@ -124,8 +124,8 @@ fn read_poke(words: &mut Words<'_>) -> Option<Poke> {
 // The lengths up to the end of the line, which has so many bytes.
 fn lengths(words: &mut Words<'_>, heap: Global, most: usize) -> Result<Vec<Length>, NoAnswer> {
     let mut read = Vec::new(heap);
-    // Each length takes a byte or more, so the count ends the loop: `while !words.ended()` would want a measure of words,
-    // which only this loop asks for.
+    // Each length takes a byte or more, so the count ends the loop: `while !words.ended()` would want a measure of
+    // words, which only this loop asks for.
     for _ in 0..most {
         if words.ended() {
             break;

@@ -24,7 +24,8 @@ impl<'a> Words<'a> {
         self.rest.is_none()
     }
 
-    // None is what cannot be read. Where memory may lack too, in `text` and in the reader of a line, an error is made of it.
+    // None is what cannot be read. Where memory may lack too, in `text` and in the reader of a line, an error is made
+    // of it.
     /// The next word: what stands before the next space, or before the end.
     pub(crate) fn word(&mut self) -> Option<&'a str> {
         let mut parts = self.rest?.splitn(2, |byte| *byte == b' ');
