@@ -103,10 +103,10 @@ fn number_of(word: &str) -> Option<u32> {
 fn length_of(word: &str, width: usize) -> Option<Length> {
     let split = word.len().checked_sub(width)?;
     let (number, unit) = word.split_at_checked(split)?;
-    Some(Length {
-        number: number.parse().ok()?,
-        unit: LengthUnit::from_str(unit)?,
-    })
+    // The unit first: most widths end in none, and then the number, which may be long, is not read.
+    let unit = LengthUnit::from_str(unit)?;
+    let number = number.parse().ok()?;
+    Some(Length { number, unit })
 }
 
 // The byte that a text within quotes means first, and what stands behind it. A quote alone means none.

@@ -16,7 +16,9 @@ pub fn count_chars(text: &[u8]) -> usize
     requires { is_utf8 text.now ≡ true }
     ensures { result ≡ length (by_character text.now) }
 {
-    text.iter().filter(|byte| begins_character(**byte)).count()
+    text.iter()
+        .map(|byte| usize::from(begins_character(*byte)))
+        .sum()
 }
 
 // How many bytes a character has, by its first.
