@@ -18,18 +18,20 @@ pub fn closest_among<'a, F: Fn(SvgNode<'a>) -> bool>(
     requires { F.IsAlwaysCallable passes }
     ensures { (met : ℕ → Bool) → IsTest node.entry.doc (F.post passes) met → result ≡ option_map (numbered node.entry.doc) (first_passing met (take most (above (card_of node.entry.doc) node.entry.id))) }
 {
-    let mut at = node;
+    // By number, since a node is a document with one: the walk carries the one document, and copies it nowhere.
+    let mut id = node.id;
     let mut left = most;
     // Tried as `successors(..).filter(..).take(most).find(..)`: `filter` asks for an end, which `successors` does not
     // show. With `take(node.doc.len())` before it the clause stayed unproved, and no lemma says what `successors` yields.
     while left > 0 {
+        let at = node.doc.node(id);
         if at.is_element() {
             if passes(at) {
                 return Some(at);
             }
             left -= 1;
         }
-        at = at.parent()?;
+        id = at.parent()?.id;
     }
     None
 }

@@ -5,11 +5,7 @@ use Rattle.values.proofs.upward.closest_among.Given as goal
 
 -- what is left of the way up gives the answer
 abbrev pub invariant-loop-left : goal.invariant-loop-left
-invariant-loop-left g l =
-    record {
-      same_document : l.at.doc ≡ l.node.doc;
-      way : (met : ℕ → Bool) → IsTest l.node.doc (goal.F-post g l.passes) met → sought_from l.node.doc met l.left l.at.id ≡ sought_from l.node.doc met l.initial.left l.node.id;
-    }
+invariant-loop-left g l = (met : ℕ → Bool) → IsTest l.node.doc (goal.F-post g l.passes) met → sought_from l.node.doc met l.left l.id ≡ sought_from l.node.doc met l.initial.left l.node.id
 
 abbrev pub decreases-loop-left : goal.decreases-loop-left
-decreases-loop-left g l = l.at.id
+decreases-loop-left g l = l.id
