@@ -1,4 +1,4 @@
-use Rattle.std.proofs.Common.{◌≡◌, is_some, refl, ap, ◌∙◌}
+use Rattle.std.proofs.Common.{◌≡◌, is_some, refl, ap, ◌∙◌, rules}
 use Rattle.card.specs.Contents.{Item, root, element, text, item}
 use Rattle.document.specs.Reads.{card_of, tag_of, is_element_item}
 use Rattle.document.proofs.node.SvgNode.is_element.Goals as goal
@@ -10,4 +10,4 @@ tagged (element p t attrs) = refl
 tagged (text p bytes) = refl
 
 pub returns : goal.returns
-returns c = c.is_some.ensures ∙ ap is_some c.tag.ensures ∙ tagged (item (card_of c.args.self.doc) c.args.self.id)
+returns c = search (rules, tagged (item (card_of c.args.self.doc) c.args.self.id))
